@@ -1,0 +1,145 @@
+-- The built codes, in the order of the newsletter's list, each with its operation and operand class. A code that is not here is not
+-- built. Checks 20, 21 and 24 go by the class. Assumes nothing.
+use Prim.Native.Nat.{ℕ, zero, suc, _+_, _-_, _*_}
+use mathlib.Core.List.{List, [], _∷_}
+use mathlib.Core.Bool.{Bool, true, false}
+use lib.Dec.{eqb, leb, ltb}
+use Rattle.rules.specs.Words.{pick, both, addressIn, firstDigit, worthA, worthB, worthC, isNumber}
+use Rattle.rules.specs.Drum.{cellAt, isOwned, wordAt}
+use Rattle.rules.specs.declared.Cell.{Cell}
+use Rattle.rules.specs.declared.Refusal.{Refusal}
+use Rattle.rules.specs.declared.Refusal.the-variants.{BadAddress, Unmarked, NotNumber}
+use Rattle.rules.specs.declared.Operation.{Operation}
+use Rattle.rules.specs.declared.Operation.the-variants.{Add, Sub, Mpy, Div, Ngmpy, Move, UncStop, CondStop, TrSgn, TrExp, Tr, TrSubr, Loop, SetTo, AddTo, SubFrom, Sqrt, Abs, Read, Pch, StartTr, StopTr, StTrEras, Noop}
+use Rattle.rules.specs.declared.Class.{Class}
+use Rattle.rules.specs.declared.Class.the-variants.{Free, TwoNumbers, OneNumber, OneWord, Changed, Linked, BlockOut, BlockIn}
+use Rattle.rules.specs.declared.Built.{Built}
+use Rattle.rules.specs.declared.Built.the-variants.{As, No}
+
+-- A row of the table: a code, what it does, what its addresses are. O1 stands in the thousands; where O1 is 0 the rest is O2.
+pub record Row : Type 0 where
+  pub code : ℕ
+  pub operation : Operation
+  pub class : Class
+
+abbrev pub row : ℕ → Operation → Class → Row
+row k o c = record { code = k; operation = o; class = c }
+
+abbrev pub pchCode : ℕ
+pchCode = 410
+
+abbrev pub noopCode : ℕ
+noopCode = 454
+
+unfoldable pub codes : List Row
+codes =
+    row 1000 Add TwoNumbers ∷
+    row 2000 Sub TwoNumbers ∷
+    row 3000 Mpy TwoNumbers ∷
+    row 4000 Div TwoNumbers ∷
+    row 5000 Ngmpy TwoNumbers ∷
+    row 9000 Move OneWord ∷
+    row 000 UncStop Free ∷
+    row 200 CondStop Free ∷
+    row 201 TrSgn Free ∷
+    row 202 TrExp Free ∷
+    row 203 Tr Free ∷
+    row 204 TrSubr Linked ∷
+    row 100 (Loop 1 0 0) Free ∷
+    row 010 (Loop 0 1 0) Free ∷
+    row 001 (Loop 0 0 1) Free ∷
+    row 110 (Loop 1 1 0) Free ∷
+    row 101 (Loop 1 0 1) Free ∷
+    row 011 (Loop 0 1 1) Free ∷
+    row 111 (Loop 1 1 1) Free ∷
+    row 500 (SetTo worthA) Changed ∷
+    row 050 (SetTo worthB) Changed ∷
+    row 005 (SetTo worthC) Changed ∷
+    row 600 (AddTo worthA) Changed ∷
+    row 060 (AddTo worthB) Changed ∷
+    row 006 (AddTo worthC) Changed ∷
+    row 700 (SubFrom worthA) Changed ∷
+    row 070 (SubFrom worthB) Changed ∷
+    row 007 (SubFrom worthC) Changed ∷
+    row 300 Sqrt OneNumber ∷
+    row 350 Abs OneNumber ∷
+    row 400 Read BlockIn ∷
+    row 410 Pch BlockOut ∷
+    row 450 StartTr Free ∷
+    row 451 StopTr Free ∷
+    row 452 StTrEras Free ∷
+    row 454 Noop Free ∷ []
+
+-- the first row with that code
+unfoldable pub lookup : ℕ → List Row → Built
+lookup k [] = No
+lookup k (r ∷ rs) = pick (eqb k (r .code)) (As (r .operation) (r .class)) (lookup k rs)
+
+-- The code of an order. Codes 1 to 8 have any A; 9 is built for A 000 alone.
+unfoldable pub codeIn : ℕ → ℕ
+codeIn w =
+    pick (both (leb 1 (firstDigit w)) (leb (firstDigit w) 8)) (1000 * firstDigit w)
+    (1000 * firstDigit w + addressIn worthA w)
+
+-- ---- the checks that go by the class
+
+-- what a check found: nothing, or a refusal
+pub data Checked : Type 0 where
+  clear : Checked
+  fails : Refusal → Checked
+
+-- the second check only where the first found nothing
+abbrev pub andThen : Checked → Checked → Checked
+andThen clear y = y
+andThen (fails r) y = fails r
+
+abbrev pub unless : Bool → Refusal → Checked
+unless true r = clear
+unless false r = fails r
+
+-- 20: a block's B is not 000 nor above C; the cell that an order changes is not 000
+abbrev pub blockFits : ℕ → ℕ → Bool
+blockFits b c = both (leb 1 b) (leb b c)
+
+abbrev pub addressCheck : Class → ℕ → ℕ → Checked
+addressCheck Free b c = clear
+addressCheck TwoNumbers b c = clear
+addressCheck OneNumber b c = clear
+addressCheck OneWord b c = clear
+addressCheck Changed b c = unless (leb 1 b) BadAddress
+addressCheck Linked b c = unless (leb 1 c) BadAddress
+addressCheck BlockOut b c = unless (blockFits b c) BadAddress
+addressCheck BlockIn b c = unless (blockFits b c) BadAddress
+
+-- 21: each cell whose word is used is marked; a block's cells upward
+abbrev pub ownedAt : List Cell → ℕ → Bool
+ownedAt v a = isOwned (cellAt v a)
+
+unfoldable pub ownedFrom : List Cell → ℕ → ℕ → Bool
+ownedFrom v b zero = true
+ownedFrom v b (suc n) = both (ownedFrom v b n) (ownedAt v (b + n))
+
+abbrev pub markCheck : Class → List Cell → ℕ → ℕ → ℕ → Checked
+markCheck Free v a b c = clear
+markCheck TwoNumbers v a b c = andThen (unless (ownedAt v a) Unmarked) (unless (ownedAt v b) Unmarked)
+markCheck OneNumber v a b c = unless (ownedAt v b) Unmarked
+markCheck OneWord v a b c = unless (ownedAt v b) Unmarked
+markCheck Changed v a b c = unless (ownedAt v b) Unmarked
+markCheck Linked v a b c = unless (ownedAt v c) Unmarked
+markCheck BlockOut v a b c = unless (ownedFrom v b (c + 1 - b)) Unmarked
+markCheck BlockIn v a b c = clear
+
+-- 24: each operand is a number
+abbrev pub numberCheck : Class → List Cell → ℕ → ℕ → Checked
+numberCheck Free v a b = clear
+numberCheck TwoNumbers v a b = andThen (unless (isNumber (wordAt v a)) NotNumber) (unless (isNumber (wordAt v b)) NotNumber)
+numberCheck OneNumber v a b = unless (isNumber (wordAt v b)) NotNumber
+numberCheck OneWord v a b = clear
+numberCheck Changed v a b = clear
+numberCheck Linked v a b = clear
+numberCheck BlockOut v a b = clear
+numberCheck BlockIn v a b = clear
+
+-- the three in their order
+unfoldable pub checked : Class → List Cell → ℕ → ℕ → ℕ → Checked
+checked k v a b c = andThen (addressCheck k b c) (andThen (markCheck k v a b c) (numberCheck k v a b))

@@ -1,0 +1,13 @@
+pub mod Words
+pub mod Rounding
+pub mod Numbers
+pub mod Arithmetic
+pub mod Drum
+pub mod Cards
+pub mod Decks
+pub mod Codes
+pub mod Machine
+pub mod Orders
+pub mod Running
+pub mod Loads
+pub mod Sheet

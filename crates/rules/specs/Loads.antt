@@ -1,0 +1,69 @@
+-- A whole call of load, with its entry checks. Assumes nothing.
+use Prim.Native.Nat.{ℕ, _-_}
+use mathlib.Core.List.{List}
+use mathlib.Core.Bool.{Bool, true, false}
+use lib.ListN.{length, drop}
+use Rattle.rules.specs.Words.{pick}
+use Rattle.rules.specs.Drum.{view, store, marksOf, overlay, drumFits}
+use Rattle.rules.specs.Cards.{firstSize, numberIn}
+use Rattle.rules.specs.Decks.{cardsStored, deckOf}
+use Rattle.rules.specs.Machine.{clearBox}
+use Rattle.rules.specs.declared.Cell.{Cell}
+use Rattle.rules.specs.declared.State.{State}
+use Rattle.rules.specs.declared.Deck.{Deck}
+use Rattle.rules.specs.declared.Deck.the-variants.{Good, Faulty}
+use Rattle.rules.specs.declared.Bar.{Bar}
+use Rattle.rules.specs.declared.Bar.the-variants.{BadDrum, BadDeck}
+use Rattle.rules.specs.declared.Loading.{Loading}
+use Rattle.rules.specs.declared.Loading.the-variants.{Loaded, NotLoaded}
+
+-- what is answered, and what the lent drum and marks then hold
+pub record LoadResult : Type 0 where
+  pub loading : Loading
+  pub state : State
+  pub drum : List ℕ
+  pub marks : List ℕ
+
+-- nothing is changed, and the state is handed back as it came
+abbrev pub notLoaded : List ℕ → List ℕ → State → Bar → LoadResult
+notLoaded drum marks s b = record { loading = NotLoaded b; state = s; drum = drum; marks = marks }
+
+-- plain or traced
+abbrev pub modeOf : Bool → ℕ
+modeOf true = 1
+modeOf false = 0
+
+-- The state that a load leaves: the first order and the problem number are those of the first-order card t, loop box and counter are
+-- clear, the reader is behind t, and a traced load starts with tracing on.
+abbrev pub fresh : List ℕ → ℕ → Bool → State
+fresh t behind traced =
+    record {
+      location = numberIn t 1 3;
+      counts = clearBox;
+      counter = 0;
+      problem = numberIn t 4 3;
+      reader = behind;
+      mode = modeOf traced;
+      tracing = modeOf traced;
+    }
+
+-- the cards before the first-order card are stored, and cell 000 becomes +0
+abbrev pub cellsLoaded : List Cell → List ℕ → ℕ → List Cell
+cellsLoaded v deck end = store (cardsStored end deck 0 end v) 0 0
+
+unfoldable pub loadedFrom : List ℕ → List ℕ → List ℕ → State → Bool → Deck → LoadResult
+loadedFrom drum marks deck s traced (Faulty f) = notLoaded drum marks s (BadDeck f)
+loadedFrom drum marks deck s traced (Good behind) =
+    let v = cellsLoaded (view drum marks) deck (behind - firstSize) in
+    record {
+      loading = Loaded;
+      state = fresh (drop (behind - firstSize) deck) behind traced;
+      drum = overlay drum v;
+      marks = marksOf v;
+    }
+
+-- the checks 10 and 11 in their order, and then the load
+unfoldable pub loaded : List ℕ → List ℕ → List ℕ → State → Bool → LoadResult
+loaded drum marks deck s traced =
+    pick (drumFits (length drum) marks (view drum marks)) (loadedFrom drum marks deck s traced (deckOf deck))
+    (notLoaded drum marks s BadDrum)

@@ -1,0 +1,113 @@
+-- What each enum of an answer means: this paper's number for each case, and the values that go with it. The numbers 00 to 29 stand
+-- here and nowhere else. Assumes nothing.
+use Prim.Native.Nat.{ℕ}
+use mathlib.Core.Bool.{Bool, true, false}
+use Rattle.rules.specs.declared.Refusal.{Refusal}
+use Rattle.rules.specs.declared.Refusal.the-variants.{BadAddress, Unmarked, NoRoom, NotBuilt, NotNumber, ZeroDivisor, NegativeRoot, OutOfRange, Unfit, NoCard}
+use Rattle.rules.specs.declared.Reckoned.{Reckoned}
+use Rattle.rules.specs.declared.Reckoned.the-variants.{Result, Refused}
+use Rattle.rules.specs.declared.Outcome.{Outcome}
+use Rattle.rules.specs.declared.Outcome.the-variants.{GoesOn, Stopped, Paused, Undone}
+use Rattle.rules.specs.declared.Fault.{Fault}
+use Rattle.rules.specs.declared.DeckFault.{DeckFault}
+use Rattle.rules.specs.declared.DeckFault.the-variants.{TooLong, At, NoFirst}
+use Rattle.rules.specs.declared.Bar.{Bar}
+use Rattle.rules.specs.declared.Bar.the-variants.{BadDrum, BadDeck, BadState}
+use Rattle.rules.specs.declared.Ending.{Ending}
+use Rattle.rules.specs.declared.Ending.the-variants.{Ran, NotRun}
+use Rattle.rules.specs.declared.Loading.{Loading}
+use Rattle.rules.specs.declared.Loading.the-variants.{Loaded, NotLoaded}
+
+-- why an order is undone
+abbrev pub refusalNumber : Refusal → ℕ
+refusalNumber BadAddress = 20
+refusalNumber Unmarked = 21
+refusalNumber NoRoom = 22
+refusalNumber NotBuilt = 23
+refusalNumber NotNumber = 24
+refusalNumber ZeroDivisor = 25
+refusalNumber NegativeRoot = 26
+refusalNumber OutOfRange = 27
+refusalNumber Unfit = 28
+refusalNumber NoCard = 29
+
+-- arithmetic on words from outside: 0 and the word, or the number and 0
+abbrev pub reckonedNumber : Reckoned → ℕ
+reckonedNumber (Result w) = 0
+reckonedNumber (Refused r) = refusalNumber r
+
+abbrev pub reckonedWord : Reckoned → ℕ
+reckonedWord (Result w) = w
+reckonedWord (Refused r) = 0
+
+-- An order's outcome. A run that may go on, and has no order left to do, has used its budget.
+abbrev pub outcomeNumber : Outcome → ℕ
+outcomeNumber (Stopped w) = 0
+outcomeNumber (Paused w) = 1
+outcomeNumber GoesOn = 2
+outcomeNumber (Undone r) = refusalNumber r
+
+-- the word shown: +0 but for the two stops
+abbrev pub outcomeShown : Outcome → ℕ
+outcomeShown (Stopped w) = w
+outcomeShown (Paused w) = w
+outcomeShown GoesOn = 0
+outcomeShown (Undone r) = 0
+
+-- how many orders were completed: none where it is undone
+abbrev pub completed : Outcome → ℕ
+completed (Stopped w) = 1
+completed (Paused w) = 1
+completed GoesOn = 1
+completed (Undone r) = 0
+
+-- whether the next order may be begun
+abbrev pub mayGoOn : Outcome → Bool
+mayGoOn (Stopped w) = false
+mayGoOn (Paused w) = false
+mayGoOn GoesOn = true
+mayGoOn (Undone r) = false
+
+-- A faulty deck. Every fault of a card is told at the card's kind byte.
+abbrev pub deckNumber : DeckFault → ℕ
+deckNumber TooLong = 11
+deckNumber (At p f) = 11
+deckNumber (NoFirst p) = 11
+
+abbrev pub deckPlace : DeckFault → ℕ
+deckPlace TooLong = 65536
+deckPlace (At p f) = p
+deckPlace (NoFirst p) = p
+
+-- a call refused at its entry
+abbrev pub barNumber : Bar → ℕ
+barNumber BadDrum = 10
+barNumber (BadDeck f) = deckNumber f
+barNumber BadState = 12
+
+abbrev pub barPlace : Bar → ℕ
+barPlace BadDrum = 0
+barPlace (BadDeck f) = deckPlace f
+barPlace BadState = 0
+
+-- a call of run
+abbrev pub endingNumber : Ending → ℕ
+endingNumber (Ran o) = outcomeNumber o
+endingNumber (NotRun b) = barNumber b
+
+abbrev pub endingPlace : Ending → ℕ
+endingPlace (Ran o) = 0
+endingPlace (NotRun b) = barPlace b
+
+abbrev pub endingShown : Ending → ℕ
+endingShown (Ran o) = outcomeShown o
+endingShown (NotRun b) = 0
+
+-- a call of load: 0 where it is done
+abbrev pub loadingNumber : Loading → ℕ
+loadingNumber Loaded = 0
+loadingNumber (NotLoaded b) = barNumber b
+
+abbrev pub loadingPlace : Loading → ℕ
+loadingPlace Loaded = 0
+loadingPlace (NotLoaded b) = barPlace b

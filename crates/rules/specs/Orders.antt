@@ -1,0 +1,158 @@
+-- What each built operation does to the machine, once the checks of its class have passed; a, b and c are the addresses of the order
+-- as it is done. Assumes nothing.
+use Prim.Native.Nat.{ℕ, zero, suc, _+_, _-_, _*_, _/_, _%_, max}
+use mathlib.Core.List.{List, [], _∷_, _++_}
+use mathlib.Core.Bool.{Bool, true, false}
+use lib.Dec.{eqb, leb, ltb}
+use lib.ListN.{length}
+use Rattle.rules.specs.Words.{pick, both, signIn, digitsIn, exponentIn, addressIn, withAddress, worthC}
+use Rattle.rules.specs.Arithmetic.{addOf, subOf, mpyOf, divOf, ngmpyOf, sqrtOf, absOf}
+use Rattle.rules.specs.Drum.{cellAt, wordAt}
+use Rattle.rules.specs.Cards.{dataCard}
+use Rattle.rules.specs.Decks.{cardsStored, judgedFrom}
+use Rattle.rules.specs.Machine.{Machine, Inputs, Answer, counting, countA, countB, countC, clearBox, numbered, readTo, tracingSet, isTraced, withState, stored, sending, goingTo, onward, done, undone, stops}
+use Rattle.rules.specs.declared.Cell.{Cell}
+use Rattle.rules.specs.declared.State.{State}
+use Rattle.rules.specs.declared.Reckoned.{Reckoned}
+use Rattle.rules.specs.declared.Reckoned.the-variants.{Result, Refused}
+use Rattle.rules.specs.declared.Refusal.the-variants.{NoRoom}
+use Rattle.rules.specs.declared.Judged.{Judged}
+use Rattle.rules.specs.declared.Judged.the-variants.{Fits, Fails}
+use Rattle.rules.specs.declared.Outcome.the-variants.{Stopped, Paused}
+use Rattle.rules.specs.declared.Operation.{Operation}
+use Rattle.rules.specs.declared.Operation.the-variants.{Add, Sub, Mpy, Div, Ngmpy, Move, UncStop, CondStop, TrSgn, TrExp, Tr, TrSubr, Loop, SetTo, AddTo, SubFrom, Sqrt, Abs, Read, Pch, StartTr, StopTr, StTrEras, Noop}
+
+-- ---- results: stored at C and at 000
+
+abbrev pub resultAt : Machine → ℕ → ℕ → Machine
+resultAt m c w = stored (stored m c w) 0 w
+
+abbrev pub reckoned : Machine → ℕ → Reckoned → Answer
+reckoned m c (Result w) = done (onward (resultAt m c w))
+reckoned m c (Refused r) = undone r m
+
+-- ---- stops and transfers
+
+-- on STOP it stops and shows B's word; either way the next order is at C
+abbrev pub condStopped : Bool → Machine → ℕ → ℕ → Answer
+condStopped true m b c = stops (Paused (wordAt (m .cells) b)) (goingTo m c)
+condStopped false m b c = done (goingTo m c)
+
+-- minus, and not ten zeros
+abbrev pub isNegative : ℕ → Bool
+isNegative w = both (eqb (signIn w) 1) (ltb 0 (digitsIn w))
+
+abbrev pub signTransferred : Machine → ℕ → ℕ → Machine
+signTransferred m b c = goingTo m (pick (isNegative (wordAt (m .cells) 0)) c b)
+
+abbrev pub exponentTransferred : Machine → ℕ → ℕ → Machine
+exponentTransferred m b c = pick (leb b (exponentIn (wordAt (m .cells) 0))) (goingTo m c) (onward m)
+
+-- the order at C gets B as its C-address and a plus sign; go to C
+abbrev pub linked : Machine → ℕ → ℕ → Machine
+linked m b c = goingTo (stored m c (withAddress worthC (digitsIn (wordAt (m .cells) c)) b)) c
+
+-- ---- loops
+
+-- the box with the named counts raised by one
+abbrev pub raised : State → ℕ → ℕ → ℕ → List ℕ
+raised s x y z = (countA s + x) ∷ (countB s + y) ∷ (countC s + z) ∷ []
+
+-- the largest of the named counts, once raised; a count that is not named is taken for 0
+abbrev pub largest : State → ℕ → ℕ → ℕ → ℕ
+largest s x y z = max (x * (countA s + x)) (max (y * (countB s + y)) (z * (countC s + z)))
+
+abbrev pub looped : Machine → ℕ → ℕ → ℕ → ℕ → ℕ → Machine
+looped m x y z b c =
+    pick (ltb (largest (m .state) x y z) b) (goingTo (withState m (counting (m .state) (raised (m .state) x y z))) c)
+    (onward (withState m (counting (m .state) clearBox)))
+
+-- ---- address changes: one address of the word at B becomes new; sign and other digits stay
+
+abbrev pub changed : Machine → ℕ → ℕ → ℕ → Machine
+changed m worth b new = onward (stored m b (withAddress worth (wordAt (m .cells) b) new))
+
+abbrev pub addressAt : Machine → ℕ → ℕ → ℕ
+addressAt m worth b = addressIn worth (wordAt (m .cells) b)
+
+-- ---- PCH: cells B to C, five a card, the last card the rest
+
+abbrev pub five : ℕ → ℕ
+five n = pick (ltb n 5) n 5
+
+unfoldable pub wordsFrom : List Cell → ℕ → ℕ → List ℕ
+wordsFrom v b zero = []
+wordsFrom v b (suc n) = wordsFrom v b n ++ (wordAt v (b + n) ∷ [])
+
+-- the counter rises, then the card of the n cells from b on is written
+abbrev pub cardPunched : Machine → ℕ → ℕ → Machine
+cardPunched m b n =
+    let s = numbered (m .state) in
+    sending (withState m s) (dataCard (s .counter) b (wordsFrom (m .cells) b n) (s .problem))
+
+-- n cells from b on; by at most so many cards
+unfoldable pub cardsPunched : ℕ → Machine → ℕ → ℕ → Machine
+cardsPunched zero m b n = m
+cardsPunched (suc k) m b n =
+    elim (eqb n 0) [
+      | true ↦ m
+      | false ↦ cardsPunched k (cardPunched m b (five n)) (b + five n) (n - five n)
+    ]
+
+-- the bytes of all cards for n cells
+abbrev pub punchSize : ℕ → ℕ
+punchSize n = 11 * n + 11 * ((n + 4) / 5)
+
+unfoldable pub punched : Inputs → Machine → ℕ → ℕ → Answer
+punched i m b n =
+    pick (leb (length (m .sent) + punchSize n) (i .room)) (done (onward (cardsPunched n m b n))) (undone NoRoom m)
+
+-- ---- READ: its cards are judged to the last before the first is stored
+
+abbrev pub read : Inputs → Machine → Judged → Answer
+read i m (Fits end) =
+    done
+    (onward
+    (record {
+      cells = cardsStored end (i .deck) (m .state .reader) end (m .cells);
+      sent = m .sent;
+      state = readTo (m .state) end;
+    }))
+read i m (Fails r) = undone r m
+
+-- ---- tracing: turned on or off in traced mode, else nothing
+
+abbrev pub tracingTo : Machine → ℕ → Machine
+tracingTo m t = pick (isTraced (m .state)) (withState m (tracingSet (m .state) t)) m
+
+-- the word that ST TR ERAS leaves in its own cell: 0 454 000 000
+abbrev pub erased : ℕ
+erased = 0454000000
+
+-- ---- all of them
+
+unfoldable pub performed : Inputs → Machine → Operation → ℕ → ℕ → ℕ → Answer
+performed i m Add a b c = reckoned m c (addOf (wordAt (m .cells) a) (wordAt (m .cells) b))
+performed i m Sub a b c = reckoned m c (subOf (wordAt (m .cells) a) (wordAt (m .cells) b))
+performed i m Mpy a b c = reckoned m c (mpyOf (wordAt (m .cells) a) (wordAt (m .cells) b))
+performed i m Div a b c = reckoned m c (divOf (wordAt (m .cells) a) (wordAt (m .cells) b))
+performed i m Ngmpy a b c = reckoned m c (ngmpyOf (wordAt (m .cells) a) (wordAt (m .cells) b))
+performed i m Move a b c = done (onward (resultAt m c (wordAt (m .cells) b)))
+performed i m UncStop a b c = stops (Stopped (wordAt (m .cells) b)) m
+performed i m CondStop a b c = condStopped (i .stop) m b c
+performed i m TrSgn a b c = done (signTransferred m b c)
+performed i m TrExp a b c = done (exponentTransferred m b c)
+performed i m Tr a b c = done (goingTo m c)
+performed i m TrSubr a b c = done (linked m b c)
+performed i m (Loop x y z) a b c = done (looped m x y z b c)
+performed i m (SetTo worth) a b c = done (changed m worth b c)
+performed i m (AddTo worth) a b c = done (changed m worth b ((addressAt m worth b + c) % 1000))
+performed i m (SubFrom worth) a b c = done (changed m worth b ((addressAt m worth b + 1000 - c) % 1000))
+performed i m Sqrt a b c = reckoned m c (sqrtOf (wordAt (m .cells) b))
+performed i m Abs a b c = reckoned m c (absOf (wordAt (m .cells) b))
+performed i m Read a b c = read i m (judgedFrom 1000 (i .deck) (m .state .reader) b c)
+performed i m Pch a b c = punched i m b (c + 1 - b)
+performed i m StartTr a b c = done (onward (tracingTo m 1))
+performed i m StopTr a b c = done (onward (tracingTo m 0))
+performed i m StTrEras a b c = done (onward (tracingTo (stored m (m .state .location) erased) 1))
+performed i m Noop a b c = done (onward m)

@@ -1,0 +1,185 @@
+-- One order from its cell on, with the loop box and the trace card; a run of orders up to a budget; and a whole call of run with its
+-- entry checks. Assumes nothing.
+use Prim.Native.Nat.{ℕ, zero, suc, _+_, _*_}
+use mathlib.Core.List.{List, [], _∷_, _++_}
+use mathlib.Core.Bool.{Bool, true, false}
+use lib.Dec.{eqb, leb, ltb}
+use lib.ListN.{length, drop}
+use Rattle.rules.specs.Words.{pick, both, either, signIn, addressIn, firstDigit, worthA, worthB, worthC}
+use Rattle.rules.specs.Numbers.{completed, mayGoOn}
+use Rattle.rules.specs.Drum.{view, cellAt, wordAt, isOwned, marksOf, overlay, drumFits}
+use Rattle.rules.specs.Cards.{traceCard}
+use Rattle.rules.specs.Decks.{deckOf, startsAt}
+use Rattle.rules.specs.Codes.{codes, lookup, codeIn, pchCode, noopCode, Checked, clear, fails, checked}
+use Rattle.rules.specs.Machine.{Machine, Inputs, Answer, countA, countB, countC, numbered, isTraced, isTracing, withState, sending, undone}
+use Rattle.rules.specs.Orders.{performed}
+use Rattle.rules.specs.declared.Cell.{Cell}
+use Rattle.rules.specs.declared.Cell.the-variants.{Foreign, Owned}
+use Rattle.rules.specs.declared.State.{State}
+use Rattle.rules.specs.declared.Operation.{Operation}
+use Rattle.rules.specs.declared.Built.{Built}
+use Rattle.rules.specs.declared.Built.the-variants.{As, No}
+use Rattle.rules.specs.declared.Refusal.the-variants.{BadAddress, Unmarked, NoRoom, NotBuilt}
+use Rattle.rules.specs.declared.Outcome.{Outcome}
+use Rattle.rules.specs.declared.Outcome.the-variants.{GoesOn}
+use Rattle.rules.specs.declared.Deck.{Deck}
+use Rattle.rules.specs.declared.Deck.the-variants.{Good, Faulty}
+use Rattle.rules.specs.declared.Bar.{Bar}
+use Rattle.rules.specs.declared.Bar.the-variants.{BadDrum, BadDeck, BadState}
+use Rattle.rules.specs.declared.Ending.{Ending}
+use Rattle.rules.specs.declared.Ending.the-variants.{Ran, NotRun}
+
+-- ---- the order as done: of a minus order each address with its count of the loop box; the minus stays
+
+abbrev pub isMinus : ℕ → Bool
+isMinus w = eqb (signIn w) 1
+
+abbrev pub sumsFit : State → ℕ → Bool
+sumsFit s w =
+    both (leb (addressIn worthA w + countA s) 999)
+    (both (leb (addressIn worthB w + countB s) 999) (leb (addressIn worthC w + countC s) 999))
+
+abbrev pub orderFits : State → ℕ → Bool
+orderFits s w = pick (isMinus w) (sumsFit s w) true
+
+abbrev pub boxWord : State → ℕ
+boxWord s = countA s * worthA + countB s * worthB + countC s * worthC
+
+abbrev pub asDone : State → ℕ → ℕ
+asDone s w = pick (isMinus w) (w + boxWord s) w
+
+-- ---- the order itself: built or not, then the checks of its class, then what it does
+
+abbrev pub allowed : Inputs → Machine → Operation → ℕ → ℕ → ℕ → Checked → Answer
+allowed i m o a b c clear = performed i m o a b c
+allowed i m o a b c (fails r) = undone r m
+
+abbrev pub obeyedAs : Inputs → Machine → ℕ → ℕ → ℕ → Built → Answer
+obeyedAs i m a b c No = undone NotBuilt m
+obeyedAs i m a b c (As o k) = allowed i m o a b c (checked k (m .cells) a b c)
+
+-- in traced mode PCH is NOOP, checks and all
+abbrev pub codeDone : State → ℕ → ℕ
+codeDone s w = pick (both (isTraced s) (eqb (codeIn w) pchCode)) noopCode (codeIn w)
+
+unfoldable pub obeyed : Inputs → Machine → ℕ → Answer
+obeyed i m w =
+    obeyedAs i m (addressIn worthA w) (addressIn worthB w) (addressIn worthC w) (lookup (codeDone (m .state) w) codes)
+
+-- ---- the trace card: order as stored, as done, the loop box, A's word, B's word, cell 000's
+
+abbrev pub wordOfA : List Cell → ℕ → ℕ
+wordOfA v w = pick (both (ltb 0 (firstDigit w)) (ltb 0 (addressIn worthA w))) (wordAt v (addressIn worthA w)) 0
+
+abbrev pub traceWords : Machine → ℕ → ℕ → List ℕ
+traceWords m w w′ =
+    w ∷ w′ ∷ boxWord (m .state) ∷ wordOfA (m .cells) w′ ∷ wordAt (m .cells) (addressIn worthB w′) ∷ wordAt (m .cells) 0 ∷ []
+
+-- the counter rises before it as before a punched card
+abbrev pub traceSent : Machine → ℕ → ℕ → Machine
+traceSent m w w′ =
+    let s = numbered (m .state) in
+    sending (withState m s) (traceCard (s .counter) (s .location) (traceWords m w w′) (s .problem))
+
+abbrev pub traceSize : ℕ
+traceSize = 77
+
+unfoldable pub traced : Inputs → Machine → ℕ → ℕ → Answer
+traced i m w w′ =
+    pick (isTracing (m .state))
+    (pick (leb (length (m .sent) + traceSize) (i .room)) (obeyed i (traceSent m w w′) w′) (undone NoRoom m))
+    (obeyed i m w′)
+
+-- ---- one order: its location, its cell, its sums, its trace card, itself
+
+unfoldable pub fetched : Inputs → Machine → Cell → Answer
+fetched i m Foreign = undone Unmarked m
+fetched i m (Owned w) = pick (orderFits (m .state) w) (traced i m w (asDone (m .state) w)) (undone BadAddress m)
+
+unfoldable pub step : Inputs → Machine → Answer
+step i m =
+    pick (both (leb 1 (m .state .location)) (leb (m .state .location) 999)) (fetched i m (cellAt (m .cells) (m .state .location)))
+    (undone BadAddress m)
+
+-- ---- a run: at most so many orders, n having been completed
+
+pub record Course : Type 0 where
+  pub outcome : Outcome
+  pub machine : Machine
+  pub count : ℕ
+
+unfoldable pub runFrom : Inputs → ℕ → Machine → ℕ → Course
+runFrom i zero m n = record { outcome = GoesOn; machine = m; count = n }
+runFrom i (suc k) m n =
+    let x = step i m in
+    elim (mayGoOn (x .outcome)) [
+      | true ↦ runFrom i k (x .machine) (n + 1)
+      | false ↦ record { outcome = x .outcome; machine = x .machine; count = n + completed (x .outcome) }
+    ]
+
+-- ---- a call of run: what is answered, and what the lent drum, marks and output then hold
+
+pub record RunResult : Type 0 where
+  pub ending : Ending
+  pub count : ℕ
+  pub written : ℕ
+  pub state : State
+  pub drum : List ℕ
+  pub marks : List ℕ
+  pub out : List ℕ
+
+-- the bytes written, and then what the output held past them
+unfoldable pub over : List ℕ → List ℕ → List ℕ
+over sent out = sent ++ drop (length sent) out
+
+-- nothing is changed
+abbrev pub notRun : List ℕ → List ℕ → List ℕ → State → Bar → RunResult
+notRun drum marks out s b =
+    record { ending = NotRun b; count = 0; written = 0; state = s; drum = drum; marks = marks; out = out }
+
+unfoldable pub ranAs : List ℕ → List ℕ → Course → RunResult
+ranAs drum out x =
+    record {
+      ending = Ran (x .outcome);
+      count = x .count;
+      written = length (x .machine .sent);
+      state = x .machine .state;
+      drum = overlay drum (x .machine .cells);
+      marks = marksOf (x .machine .cells);
+      out = over (x .machine .sent) out;
+    }
+
+abbrev pub begun : List ℕ → List ℕ → State → Machine
+begun drum marks s = record { cells = view drum marks; sent = []; state = s }
+
+abbrev pub inputs : List ℕ → List ℕ → Bool → Inputs
+inputs deck out stop = record { deck = deck; room = length out; stop = stop }
+
+-- Check 12. Mode and tracing are 0 or 1, and tracing is not on in plain mode. The reader stands behind the first-order card, at a
+-- card's start or the deck's end.
+abbrev pub boxFits : State → Bool
+boxFits s = both (leb (countA s) 999) (both (leb (countB s) 999) (leb (countC s) 999))
+
+unfoldable pub stateFits : List Cell → List ℕ → ℕ → State → ℕ → Bool
+stateFits v deck first s budget =
+    both (leb budget 999999)
+    (both (leb (s .location) 1000)
+    (both (boxFits s)
+    (both (leb (s .counter) 9999)
+    (both (leb (s .problem) 999)
+    (both (leb (s .mode) 1)
+    (both (leb (s .tracing) (s .mode))
+    (both (isOwned (cellAt v 0)) (startsAt (length deck + 1) deck first (s .reader)))))))))
+
+unfoldable pub ranOn : List ℕ → List ℕ → List ℕ → List ℕ → State → ℕ → Bool → Deck → RunResult
+ranOn drum marks deck out s budget stop (Faulty f) = notRun drum marks out s (BadDeck f)
+ranOn drum marks deck out s budget stop (Good first) =
+    pick (stateFits (view drum marks) deck first s budget)
+    (ranAs drum out (runFrom (inputs deck out stop) budget (begun drum marks s) 0))
+    (notRun drum marks out s BadState)
+
+-- the checks 10, 11, 12 in their order, and then the run
+unfoldable pub ran : List ℕ → List ℕ → List ℕ → List ℕ → State → ℕ → Bool → RunResult
+ran drum marks deck out s budget stop =
+    pick (drumFits (length drum) marks (view drum marks)) (ranOn drum marks deck out s budget stop (deckOf deck))
+    (notRun drum marks out s BadDrum)

@@ -1,0 +1,60 @@
+-- Words: a sign and ten decimal digits, held as one number. What a number, an order and its addresses are.
+-- Assumes nothing.
+use Prim.Native.Nat.{ℕ, _+_, _-_, _*_, _/_, _%_}
+use mathlib.Core.Bool.{Bool, true, false}
+use lib.Dec.{eqb, leb, ltb}
+
+-- a choice by a test, and two tests together
+abbrev pub pick : {A : Type 0} → Bool → A → A → A
+pick true a b = a
+pick false a b = b
+
+abbrev pub both : Bool → Bool → Bool
+both true b = b
+both false b = false
+
+abbrev pub either : Bool → Bool → Bool
+either true b = true
+either false b = b
+
+-- A word is its ten digits, and 10,000,000,000 more for minus. So minus zero is a word of its own, and no word is above 19,999,999,999.
+abbrev pub isWord : ℕ → Bool
+isWord w = leb w 19999999999
+
+-- 1 for minus
+abbrev pub signIn : ℕ → ℕ
+signIn w = w / 10000000000
+
+abbrev pub digitsIn : ℕ → ℕ
+digitsIn w = w % 10000000000
+
+-- A number: +0, or a word whose first eight digits are at least 10000000. They are worth themselves times ten to the last two digits
+-- less 57, with the word's sign.
+abbrev pub leadingIn : ℕ → ℕ
+leadingIn w = digitsIn w / 100
+
+abbrev pub exponentIn : ℕ → ℕ
+exponentIn w = w % 100
+
+unfoldable pub isNumber : ℕ → Bool
+isNumber w = either (eqb w 0) (both (isWord w) (leb 10000000 (leadingIn w)))
+
+-- An order: sign, one digit, and three addresses of three digits. An address is named by what one unit of it is worth in the word.
+abbrev pub worthA : ℕ
+worthA = 1000000
+
+abbrev pub worthB : ℕ
+worthB = 1000
+
+abbrev pub worthC : ℕ
+worthC = 1
+
+abbrev pub addressIn : ℕ → ℕ → ℕ
+addressIn worth w = digitsIn w / worth % 1000
+
+abbrev pub firstDigit : ℕ → ℕ
+firstDigit w = digitsIn w / 1000000000
+
+-- the word w with the address of that worth replaced
+abbrev pub withAddress : ℕ → ℕ → ℕ → ℕ
+withAddress worth w a = w - addressIn worth w * worth + a * worth

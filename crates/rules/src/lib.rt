@@ -1,0 +1,158 @@
+// The types of the rules: what a cell, a card, an order, an answer is. What they mean is defined in specs/, in the order of the
+// paper; the code of every other crate uses these types and is held to those definitions.
+
+// A cell as the job sees it. One that it does not own has no content here.
+pub enum Cell {
+    Foreign,
+    Owned(u64),
+}
+
+// Why an order, or arithmetic on two words, is refused.
+pub enum Refusal {
+    BadAddress,
+    Unmarked,
+    NoRoom,
+    NotBuilt,
+    NotNumber,
+    ZeroDivisor,
+    NegativeRoot,
+    OutOfRange,
+    Unfit,
+    NoCard,
+}
+
+// What arithmetic answers: the word to store, or why there is none.
+pub enum Reckoned {
+    Result(u64),
+    Refused(Refusal),
+}
+
+// What is wrong with one card. A place is counted from the card's kind byte.
+pub enum Fault {
+    UnknownKind,
+    SecondFirst,
+    CutShort,
+    BadByte(usize),
+    BadPlace(usize),
+}
+
+// One card at the start of what is left of a deck.
+pub enum Card {
+    Data {
+        number: u64,
+        location: usize,
+        words: usize,
+        problem: u64,
+        size: usize,
+    },
+    First {
+        order: usize,
+        problem: u64,
+    },
+    Bad(Fault),
+    End,
+}
+
+// What is wrong with a deck: its length, the card at a place, or that it has no first-order card.
+pub enum DeckFault {
+    TooLong,
+    At(usize, Fault),
+    NoFirst(usize),
+}
+
+// A deck as checked: good, with the place behind its first-order card, or faulty.
+pub enum Deck {
+    Good(usize),
+    Faulty(DeckFault),
+}
+
+// The built operations. A loop names the counts that it raises (1 for a count that is named, 0 for one that is not), in the order
+// A, B, C; an address change names its address by what one unit of it is worth in the word.
+pub enum Operation {
+    Add,
+    Sub,
+    Mpy,
+    Div,
+    Ngmpy,
+    Move,
+    UncStop,
+    CondStop,
+    TrSgn,
+    TrExp,
+    Tr,
+    TrSubr,
+    Loop(u64, u64, u64),
+    SetTo(u64),
+    AddTo(u64),
+    SubFrom(u64),
+    Sqrt,
+    Abs,
+    Read,
+    Pch,
+    StartTr,
+    StopTr,
+    StTrEras,
+    Noop,
+}
+
+// Which of an order's addresses are used, and as what.
+pub enum Class {
+    Free,
+    TwoNumbers,
+    OneNumber,
+    OneWord,
+    Changed,
+    Linked,
+    BlockOut,
+    BlockIn,
+}
+
+// A code as looked up in the table of built codes.
+pub enum Built {
+    As(Operation, Class),
+    No,
+}
+
+// The machine state. Mode is 0 for plain and 1 for traced, tracing is 1 while it is on.
+pub struct State {
+    pub location: usize,
+    pub counts: [u64; 3],
+    pub counter: u64,
+    pub problem: u64,
+    pub reader: usize,
+    pub mode: u64,
+    pub tracing: u64,
+}
+
+// Whether the cards for READ fill its block: the place behind the last of them, or why they do not.
+pub enum Judged {
+    Fits(usize),
+    Fails(Refusal),
+}
+
+// What came of an order, and so of a run: it may go on, it stopped and shows a word, or the order was refused.
+pub enum Outcome {
+    GoesOn,
+    Stopped(u64),
+    Paused(u64),
+    Undone(Refusal),
+}
+
+// Why a call of load or run does nothing at all.
+pub enum Bar {
+    BadDrum,
+    BadDeck(DeckFault),
+    BadState,
+}
+
+// How a call of run ended.
+pub enum Ending {
+    Ran(Outcome),
+    NotRun(Bar),
+}
+
+// How a call of load ended.
+pub enum Loading {
+    Loaded,
+    NotLoaded(Bar),
+}

@@ -1,0 +1,69 @@
+//! Differential testing of the seven operations.
+
+mod cases;
+mod judge;
+mod operands;
+
+use crate::model::operation::{of_one, of_two, OfOne, OfTwo};
+use crate::model::stop::{Field, Reason};
+use crate::model::word::Word;
+use cases::Case;
+
+pub use judge::judge;
+
+/// The operations by their number in a case.
+const NAMES: [&str; 7] = ["add", "sub", "mpy", "div", "ngmpy", "sqrt", "abs"];
+
+/// The answer of the C calls: 0 and the word, or the stop number and 0. An operand that is no word
+/// is no number either.
+fn answer(case: Case) -> (u64, u64) {
+    match outcome(case) {
+        Ok(word) => (0, word.cell()),
+        Err(reason) => (reason.number(), 0),
+    }
+}
+
+fn outcome(case: Case) -> Result<Word, Reason> {
+    let a = Word::of_cell(case.a).ok_or(Reason::NotNumber(Field::A))?;
+    match case.operation {
+        0 => of_two(OfTwo::Add, a, second(case)?),
+        1 => of_two(OfTwo::Sub, a, second(case)?),
+        2 => of_two(OfTwo::Mpy, a, second(case)?),
+        3 => of_two(OfTwo::Div, a, second(case)?),
+        4 => of_two(OfTwo::Ngmpy, a, second(case)?),
+        5 => of_one(OfOne::Sqrt, a),
+        6 => of_one(OfOne::Abs, a),
+        other => panic!("no operation has the number {other}"),
+    }
+}
+
+fn second(case: Case) -> Result<Word, Reason> {
+    Word::of_cell(case.b).ok_or(Reason::NotNumber(Field::B))
+}
+
+pub mod files {
+    //! Case and answer files.
+    use super::{answer, cases};
+    use crate::files::{append, Reading, Writing};
+
+    pub fn write(seed: u64, count: u64, path: &str) {
+        let mut out = Writing::create(path);
+        for index in 0..count {
+            let case = cases::case(seed, index);
+            out.numbers(&[case.operation, case.a, case.b]);
+        }
+        out.finish();
+    }
+
+    /// The model in the place of the driver.
+    pub fn answer_all(cases: &str, answers: &str) {
+        let mut input = Reading::open(cases);
+        let mut out = Writing::create(answers);
+        while !input.at_end() {
+            let [operation, a, b] = input.some().expect("a whole case");
+            let (number, word) = answer(cases::Case { operation, a, b });
+            out.numbers(&[number, word]);
+        }
+        out.finish();
+    }
+}
