@@ -1,1 +1,6 @@
 pub mod Session
+pub mod Table
+pub mod Unseen
+pub mod Kept
+pub mod Undone
+pub mod Counting

@@ -1,1 +1,6 @@
 pub mod Session
+pub mod Table
+pub mod Calls
+pub mod Foreign
+pub mod Undone
+pub mod Counting

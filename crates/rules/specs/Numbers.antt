@@ -68,6 +68,13 @@ mayGoOn (Paused w) = false
 mayGoOn GoesOn = true
 mayGoOn (Undone r) = false
 
+-- whether the next run tries the same order again: after the stop 00, and after a refusal
+abbrev pub triesAgain : Outcome → Bool
+triesAgain (Stopped w) = true
+triesAgain (Paused w) = false
+triesAgain GoesOn = false
+triesAgain (Undone r) = true
+
 -- A faulty deck. Every fault of a card is told at the card's kind byte.
 abbrev pub deckNumber : DeckFault → ℕ
 deckNumber TooLong = 11

@@ -1,6 +1,8 @@
 -- One order from its cell on, with the loop box and the trace card; a run of orders up to a budget; and a whole call of run with its
 -- entry checks. Assumes nothing.
 use Prim.Native.Nat.{ℕ, zero, suc, _+_, _*_}
+use mathlib.Core.Path.{_≡_}
+use mathlib.Core.Logic.{_⊎_}
 use mathlib.Core.List.{List, [], _∷_, _++_}
 use mathlib.Core.Bool.{Bool, true, false}
 use lib.Dec.{eqb, leb, ltb}
@@ -100,6 +102,13 @@ unfoldable pub step : Inputs → Machine → Answer
 step i m =
     pick (both (leb 1 (m .state .location)) (leb (m .state .location) 999)) (fetched i m (cellAt (m .cells) (m .state .location)))
     (undone BadAddress m)
+
+-- What is left by an order that is to be tried again, a refused one or the stop 00: the machine as it was, or as it was but for the
+-- trace card of the order in its own cell.
+abbrev pub Left : Machine → Machine → Type 0
+Left m u =
+    (u ≡ m)
+    ⊎ ((w : ℕ) × (cellAt (m .cells) (m .state .location) ≡ Owned w) × (u ≡ traceSent m w (asDone (m .state) w)))
 
 -- ---- a run: at most so many orders, n having been completed
 

@@ -114,8 +114,8 @@ impl Natural {
 
 impl Ord for Natural {
     fn cmp(&self, other: &Natural) -> Ordering {
-        let from_the_top = |n: &Natural| n.limbs[..n.used].iter().rev();
-        self.used.cmp(&other.used).then_with(|| from_the_top(self).cmp(from_the_top(other)))
+        let (first, second) = (self.limbs[..self.used].iter(), other.limbs[..other.used].iter());
+        self.used.cmp(&other.used).then_with(|| first.rev().cmp(second.rev()))
     }
 }
 

@@ -3,6 +3,7 @@
 mod cases;
 mod judge;
 mod operands;
+mod shapes;
 
 use crate::model::operation::{of_one, of_two, OfOne, OfTwo};
 use crate::model::stop::{Field, Reason};
@@ -44,7 +45,7 @@ fn second(case: Case) -> Result<Word, Reason> {
 pub mod files {
     //! Case and answer files.
     use super::{answer, cases};
-    use crate::files::{append, Reading, Writing};
+    use crate::files::{Reading, Writing};
 
     pub fn write(seed: u64, count: u64, path: &str) {
         let mut out = Writing::create(path);

@@ -1,0 +1,185 @@
+-- A mark once set stays: no order, run or load takes one away, since the one change of cells is a store. Assumes nothing.
+use Prim.Native.Nat.{ℕ, zero, suc, _+_, _-_}
+use mathlib.Core.Path.{_≡_, refl, sym, ap, subst, _∙_}
+use mathlib.Core.List.{List}
+use mathlib.Core.Bool.{Bool, true, false}
+use lib.Dec.{eqb, leb, ltb}
+use lib.ListN.{length, getD, drop}
+use Rattle.rules.specs.Words.{pick, both, exponentIn, withAddress, addressIn, digitsIn, worthA, worthB, worthC}
+use Rattle.rules.specs.Numbers.{mayGoOn}
+use Rattle.rules.specs.Arithmetic.{addOf, subOf, mpyOf, divOf, ngmpyOf, sqrtOf, absOf}
+use Rattle.rules.specs.Drum.{cellAt, wordAt, store, marksOf}
+use Rattle.rules.specs.Cards.{wordIn, wordPlace}
+use Rattle.rules.specs.Decks.{cardAt, wordsStored, cardsStored, judgedFrom}
+use Rattle.rules.specs.Codes.{Checked, clear, fails, codes, lookup, checked}
+use Rattle.rules.specs.Machine.{Machine, Inputs, Answer, counting, clearBox, isTraced, isTracing, tracingSet, withState, stored, goingTo, onward, done, undone}
+use Rattle.rules.specs.Orders.{reckoned, condStopped, largest, raised, five, cardPunched, cardsPunched, punchSize, punched, read, tracingTo, erased, performed}
+use Rattle.rules.specs.Running.{Course, allowed, obeyedAs, codeDone, obeyed, asDone, orderFits, traceSent, traceSize, traced, fetched, step, runFrom}
+use Rattle.rules.specs.declared.Cell.{Cell}
+use Rattle.rules.specs.declared.Cell.the-variants.{Foreign, Owned}
+use Rattle.rules.specs.declared.Card.{Card}
+use Rattle.rules.specs.declared.Card.the-variants.{Data, First, Bad, End}
+use Rattle.rules.specs.declared.Reckoned.{Reckoned}
+use Rattle.rules.specs.declared.Reckoned.the-variants.{Result, Refused}
+use Rattle.rules.specs.declared.Judged.{Judged}
+use Rattle.rules.specs.declared.Judged.the-variants.{Fits, Fails}
+use Rattle.rules.specs.declared.Refusal.the-variants.{BadAddress, NoRoom}
+use Rattle.rules.specs.declared.Built.{Built}
+use Rattle.rules.specs.declared.Built.the-variants.{As, No}
+use Rattle.rules.specs.declared.Operation.{Operation}
+use Rattle.rules.specs.declared.Operation.the-variants.{Add, Sub, Mpy, Div, Ngmpy, Move, UncStop, CondStop, TrSgn, TrExp, Tr, TrSubr, Loop, SetTo, AddTo, SubFrom, Sqrt, Abs, Read, Pch, StartTr, StopTr, StTrEras, Noop}
+use Rattle.rules.proofs.Views.{Grows, store-grows}
+
+-- the same cells, or a choice of two
+same : (v : List Cell) → Grows v v
+same v k e = e
+
+pick-grows : (v : List Cell) (t : Bool) (x y : Machine) → Grows v (x .cells) → Grows v (y .cells) → Grows v (pick t x y .cells)
+pick-grows v true x y p q = p
+pick-grows v false x y p q = q
+
+answer-grows : (v : List Cell) (t : Bool) (x y : Answer) → Grows v (x .machine .cells) → Grows v (y .machine .cells)
+    → Grows v (pick t x y .machine .cells)
+answer-grows v true x y p q = p
+answer-grows v false x y p q = q
+
+-- ---- what stores
+
+result-grows : (v : List Cell) (c w : ℕ) → Grows v (store (store v c w) 0 w)
+result-grows v c w k e = store-grows v c w k (store-grows (store v c w) 0 w k e)
+
+reckoned-grows : (m : Machine) (c : ℕ) (r : Reckoned) → Grows (m .cells) (reckoned m c r .machine .cells)
+reckoned-grows m c (Result w) = result-grows (m .cells) c w
+reckoned-grows m c (Refused r) = same (m .cells)
+
+words-grow : (d : List ℕ) (l n : ℕ) (v : List Cell) → Grows v (wordsStored d l n v)
+unfolding wordsStored
+words-grow d l zero v = same v
+words-grow d l (suc n) v = λ k e. words-grow d l n v k (store-grows (wordsStored d l n v) (l + n) (wordIn d (wordPlace n)) k e)
+
+pub cards-grow : (j : ℕ) (deck : List ℕ) (at end : ℕ) (v : List Cell) → Grows v (cardsStored j deck at end v)
+unfolding cardsStored
+cards-grow zero deck at end v = same v
+cards-grow (suc j) deck at end v = go (λ a u. cards-grow j deck a end u) (ltb at end) (cardAt deck at) refl refl
+  where
+    go : ((a : ℕ) (u : List Cell) → Grows u (cardsStored j deck a end u)) → (t : Bool) (x : Card) → ltb at end ≡ t → cardAt deck at ≡ x
+        → Grows v (cardsStored (suc j) deck at end v)
+    go r false x p q = rw (p, cardsStored) (same v)
+    go r true (Data number location words problem size) p q =
+        rw (p, q, cardsStored)
+        (λ k e. words-grow (drop at deck) location words v k (r (at + size) (wordsStored (drop at deck) location words v) k e))
+    go r true (First order problem) p q = rw (p, q, cardsStored) (same v)
+    go r true (Bad f) p q = rw (p, q, cardsStored) (same v)
+    go r true End p q = rw (p, q, cardsStored) (same v)
+
+read-grows : (i : Inputs) (m : Machine) (j : Judged) → Grows (m .cells) (read i m j .machine .cells)
+read-grows i m (Fits end) = cards-grow end (i .deck) (m .state .reader) end (m .cells)
+read-grows i m (Fails r) = same (m .cells)
+
+-- ---- what only punches or moves on
+
+cond-grows : (t : Bool) (m : Machine) (b c : ℕ) → Grows (m .cells) (condStopped t m b c .machine .cells)
+cond-grows true m b c = same (m .cells)
+cond-grows false m b c = same (m .cells)
+
+punched-cells : (j : ℕ) (m : Machine) (b n : ℕ) → cardsPunched j m b n .cells ≡ m .cells
+unfolding cardsPunched
+punched-cells zero m b n = refl
+punched-cells (suc j) m b n = go (eqb n 0) refl (punched-cells j (cardPunched m b (five n)) (b + five n) (n - five n))
+  where
+    go : (t : Bool) → eqb n 0 ≡ t → cardsPunched j (cardPunched m b (five n)) (b + five n) (n - five n) .cells ≡ m .cells
+        → cardsPunched (suc j) m b n .cells ≡ m .cells
+    go true e r = rw (e, cardsPunched)
+    go false e r = rw (e, cardsPunched) r
+
+punched-grows : (i : Inputs) (m : Machine) (b n : ℕ) → Grows (m .cells) (punched i m b n .machine .cells)
+unfolding punched
+punched-grows i m b n =
+    answer-grows (m .cells) (leb (length (m .sent) + punchSize n) (i .room)) (done (onward (cardsPunched n m b n))) (undone NoRoom m)
+    (subst (λ (v : List Cell). Grows (m .cells) v) (sym (punched-cells n m b n)) (same (m .cells))) (same (m .cells))
+
+tracing-grows : (m : Machine) (t : ℕ) → Grows (m .cells) (tracingTo m t .cells)
+tracing-grows m t =
+    pick-grows (m .cells) (isTraced (m .state)) (withState m (tracingSet (m .state) t)) m (same (m .cells)) (same (m .cells))
+
+-- ---- each operation
+
+performed-grows : (i : Inputs) (m : Machine) (o : Operation) (a b c : ℕ) → Grows (m .cells) (performed i m o a b c .machine .cells)
+unfolding performed
+performed-grows i m Add a b c = reckoned-grows m c (addOf (wordAt (m .cells) a) (wordAt (m .cells) b))
+performed-grows i m Sub a b c = reckoned-grows m c (subOf (wordAt (m .cells) a) (wordAt (m .cells) b))
+performed-grows i m Mpy a b c = reckoned-grows m c (mpyOf (wordAt (m .cells) a) (wordAt (m .cells) b))
+performed-grows i m Div a b c = reckoned-grows m c (divOf (wordAt (m .cells) a) (wordAt (m .cells) b))
+performed-grows i m Ngmpy a b c = reckoned-grows m c (ngmpyOf (wordAt (m .cells) a) (wordAt (m .cells) b))
+performed-grows i m Move a b c = result-grows (m .cells) c (wordAt (m .cells) b)
+performed-grows i m UncStop a b c = same (m .cells)
+performed-grows i m CondStop a b c = cond-grows (i .stop) m b c
+performed-grows i m TrSgn a b c = same (m .cells)
+performed-grows i m TrExp a b c =
+    pick-grows (m .cells) (leb b (exponentIn (wordAt (m .cells) 0))) (goingTo m c) (onward m) (same (m .cells)) (same (m .cells))
+performed-grows i m Tr a b c = same (m .cells)
+performed-grows i m TrSubr a b c = store-grows (m .cells) c _
+performed-grows i m (Loop x y z) a b c =
+    pick-grows (m .cells) (ltb (largest (m .state) x y z) b) (goingTo (withState m (counting (m .state) (raised (m .state) x y z))) c)
+    (onward (withState m (counting (m .state) clearBox))) (same (m .cells)) (same (m .cells))
+performed-grows i m (SetTo worth) a b c = store-grows (m .cells) b _
+performed-grows i m (AddTo worth) a b c = store-grows (m .cells) b _
+performed-grows i m (SubFrom worth) a b c = store-grows (m .cells) b _
+performed-grows i m Sqrt a b c = reckoned-grows m c (sqrtOf (wordAt (m .cells) b))
+performed-grows i m Abs a b c = reckoned-grows m c (absOf (wordAt (m .cells) b))
+performed-grows i m Read a b c = read-grows i m (judgedFrom 1000 (i .deck) (m .state .reader) b c)
+performed-grows i m Pch a b c = punched-grows i m b (c + 1 - b)
+performed-grows i m StartTr a b c = tracing-grows m 1
+performed-grows i m StopTr a b c = tracing-grows m 0
+performed-grows i m StTrEras a b c =
+    λ k e. store-grows (m .cells) (m .state .location) erased k (tracing-grows (stored m (m .state .location) erased) 1 k e)
+performed-grows i m Noop a b c = same (m .cells)
+
+-- ---- a whole order, and a run
+
+allowed-grows : (i : Inputs) (m : Machine) (o : Operation) (a b c : ℕ) (k : Checked) → Grows (m .cells) (allowed i m o a b c k .machine .cells)
+allowed-grows i m o a b c clear = performed-grows i m o a b c
+allowed-grows i m o a b c (fails r) = same (m .cells)
+
+as-grows : (i : Inputs) (m : Machine) (a b c : ℕ) (k : Built) → Grows (m .cells) (obeyedAs i m a b c k .machine .cells)
+as-grows i m a b c No = same (m .cells)
+as-grows i m a b c (As o k) = allowed-grows i m o a b c (checked k (m .cells) a b c)
+
+obeyed-grows : (i : Inputs) (m : Machine) (w : ℕ) → Grows (m .cells) (obeyed i m w .machine .cells)
+unfolding obeyed
+obeyed-grows i m w =
+    as-grows i m (addressIn worthA w) (addressIn worthB w) (addressIn worthC w) (lookup (codeDone (m .state) w) codes)
+
+traced-grows : (i : Inputs) (m : Machine) (w w′ : ℕ) → Grows (m .cells) (traced i m w w′ .machine .cells)
+unfolding traced
+traced-grows i m w w′ =
+    answer-grows (m .cells) (isTracing (m .state))
+    (pick (leb (length (m .sent) + traceSize) (i .room)) (obeyed i (traceSent m w w′) w′) (undone NoRoom m)) (obeyed i m w′)
+    (answer-grows (m .cells) (leb (length (m .sent) + traceSize) (i .room)) (obeyed i (traceSent m w w′) w′) (undone NoRoom m)
+    (obeyed-grows i (traceSent m w w′) w′) (same (m .cells)))
+    (obeyed-grows i m w′)
+
+fetched-grows : (i : Inputs) (m : Machine) (x : Cell) → Grows (m .cells) (fetched i m x .machine .cells)
+unfolding fetched
+fetched-grows i m Foreign = same (m .cells)
+fetched-grows i m (Owned w) =
+    answer-grows (m .cells) (orderFits (m .state) w) (traced i m w (asDone (m .state) w)) (undone BadAddress m)
+    (traced-grows i m w (asDone (m .state) w)) (same (m .cells))
+
+step-grows : (i : Inputs) (m : Machine) → Grows (m .cells) (step i m .machine .cells)
+unfolding step
+step-grows i m =
+    answer-grows (m .cells) (both (leb 1 (m .state .location)) (leb (m .state .location) 999))
+    (fetched i m (cellAt (m .cells) (m .state .location))) (undone BadAddress m)
+    (fetched-grows i m (cellAt (m .cells) (m .state .location))) (same (m .cells))
+
+pub run-grows : (i : Inputs) (k : ℕ) (m : Machine) (n : ℕ) → Grows (m .cells) (runFrom i k m n .machine .cells)
+unfolding runFrom
+run-grows i zero m n = same (m .cells)
+run-grows i (suc k) m n = go (mayGoOn (step i m .outcome)) refl (run-grows i k (step i m .machine) (n + 1))
+  where
+    go : (t : Bool) → mayGoOn (step i m .outcome) ≡ t
+        → Grows (step i m .machine .cells) (runFrom i k (step i m .machine) (n + 1) .machine .cells)
+        → Grows (m .cells) (runFrom i (suc k) m n .machine .cells)
+    go true e g = rw (e, runFrom) (λ j z. step-grows i m j (g j z))
+    go false e g = rw (e, runFrom) (step-grows i m)

@@ -1,0 +1,114 @@
+//! One order after another.
+
+use super::deck::Deck;
+use super::drum::Drum;
+use super::event::{Event, Tracing, Way};
+use super::order::{code, Order};
+use super::orders::{plan, Effects, View};
+use super::state::State;
+use super::stop::Reason;
+use super::trace::{next_counter, trace_card};
+use super::word::Word;
+
+pub struct Machine<'a> {
+    pub drum: Drum<'a>,
+    pub deck: Deck,
+    pub state: State,
+    pub switch_on_stop: bool,
+    pub out: &'a mut [u8],
+    pub written: usize,
+    pub witness: &'a mut dyn FnMut(Event),
+}
+
+/// A stop that an order makes, with the word it shows.
+pub type Stop = Option<(Reason, Word)>;
+
+impl Machine<'_> {
+    /// Does the order at the location, or says why not. The checks come in the paper's order; of a
+    /// refused order only its trace card and that card's number remain.
+    pub fn step(&mut self) -> Result<Stop, Reason> {
+        let tracing = self.tracing();
+        let made = self.order_as_done().and_then(|(stored, done)| self.trace(stored, done));
+        let (code, order) = match made.and_then(|done| Ok((code(done).ok_or(Reason::NotBuilt)?, done))) {
+            Ok(built) => built,
+            Err(reason) => {
+                (self.witness)(Event::Refused { reason, tracing });
+                return Err(reason);
+            }
+        };
+        let view = View {
+            drum: &self.drum,
+            state: &self.state,
+            deck: &self.deck,
+            switch_on_stop: self.switch_on_stop,
+            room: self.out.len() - self.written,
+        };
+        match plan(code, order, &view) {
+            Ok(effects) => {
+                let (way, stop) = (effects.way, effects.stop);
+                self.apply(order, effects);
+                (self.witness)(Event::Completed { code, way, stopped: stop.is_some(), tracing });
+                Ok(stop)
+            }
+            Err(reason) => {
+                (self.witness)(Event::OrderRefused { code, reason, tracing });
+                Err(reason)
+            }
+        }
+    }
+
+    fn tracing(&self) -> Tracing {
+        match (self.state.traced_mode(), self.state.tracing_is_on()) {
+            (false, _) => Tracing::Plain,
+            (true, false) => Tracing::Off,
+            (true, true) => Tracing::On,
+        }
+    }
+
+    /// The location, the order's own cell, then the sums with the loop box.
+    fn order_as_done(&self) -> Result<(Word, Order), Reason> {
+        match self.state.location {
+            0 => return Err(Reason::Location000),
+            1..=999 => {}
+            _ => return Err(Reason::LocationPast999),
+        }
+        let stored = self.drum.word(self.state.location).ok_or(Reason::OrderUnmarked)?;
+        let done = Order::of_word(stored).made_with(self.state.counts)?;
+        Ok((stored, done))
+    }
+
+    /// Writes the trace card if tracing is on.
+    fn trace(&mut self, stored: Word, done: Order) -> Result<Order, Reason> {
+        if !self.state.tracing_is_on() {
+            return Ok(done);
+        }
+        let counted = State { counter: next_counter(self.state.counter), ..self.state };
+        let card = trace_card(stored, done, &counted, &self.drum);
+        if card.len() > self.out.len() - self.written {
+            return Err(Reason::NoRoomForTrace);
+        }
+        self.state = counted;
+        self.write(&card);
+        Ok(done)
+    }
+
+    fn apply(&mut self, order: Order, effects: Effects) {
+        let location = match effects.way {
+            Way::On => self.state.location + 1,
+            Way::ToB => order.b,
+            Way::ToC => order.c,
+            Way::Stays => self.state.location,
+        };
+        for (cell, word) in effects.stores {
+            self.drum.store(cell, word);
+        }
+        self.state = State { location, ..effects.state };
+        self.write(&effects.punched);
+    }
+
+    /// The caller has seen that it fits. Bytes behind it stay as they are.
+    fn write(&mut self, card: &str) {
+        self.out[self.written..self.written + card.len()].copy_from_slice(card.as_bytes());
+        self.written += card.len();
+    }
+}

@@ -1,0 +1,21 @@
+//! The rules of the paper.
+
+pub mod arithmetic;
+pub mod calls;
+pub mod card;
+pub mod deck;
+pub mod drum;
+pub mod event;
+pub mod machine;
+pub mod natural;
+pub mod nearest;
+pub mod operation;
+pub mod order;
+pub mod orders;
+pub mod state;
+pub mod stop;
+pub mod trace;
+pub mod word;
+
+#[cfg(test)]
+mod tests;

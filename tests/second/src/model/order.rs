@@ -1,0 +1,192 @@
+//! Orders: how a word is split, what the loop box adds, and which codes are built.
+
+use super::operation::{OfOne, OfTwo};
+use super::stop::{Field, Reason, FIELDS};
+use super::word::Word;
+
+/// Sign, first digit, then three addresses of three digits; A holds O2 when the first digit is 0.
+#[derive(Clone, Copy, Debug, PartialEq, Eq)]
+pub struct Order {
+    pub minus: bool,
+    pub o1: u64,
+    pub a: u64,
+    pub b: u64,
+    pub c: u64,
+}
+
+impl Order {
+    pub fn of_word(word: Word) -> Order {
+        let Word { minus, digits } = word;
+        let (o1, a) = (digits / 1_000_000_000, digits / 1_000_000 % 1_000);
+        Order { minus, o1, a, b: digits / 1_000 % 1_000, c: digits % 1_000 }
+    }
+
+    pub fn word(self) -> Word {
+        let digits = ((self.o1 * 1_000 + self.a) * 1_000 + self.b) * 1_000 + self.c;
+        Word { minus: self.minus, digits }
+    }
+
+    pub fn address(self, field: Field) -> u64 {
+        match field {
+            Field::A => self.a,
+            Field::B => self.b,
+            Field::C => self.c,
+        }
+    }
+
+    pub fn with_address(mut self, field: Field, address: u64) -> Order {
+        match field {
+            Field::A => self.a = address,
+            Field::B => self.b = address,
+            Field::C => self.c = address,
+        }
+        self
+    }
+
+    /// The order as done: a minus order gets the loop box's counts added, whatever its code, and
+    /// keeps its minus. Each of the three sums must stay below 1,000.
+    pub fn made_with(self, counts: [u64; 3]) -> Result<Order, Reason> {
+        let mut made = self;
+        if self.minus {
+            for (field, count) in FIELDS.into_iter().zip(counts) {
+                let sum = self.address(field) + count;
+                if sum > 999 {
+                    return Err(Reason::SumAbove999(field));
+                }
+                made = made.with_address(field, sum);
+            }
+        }
+        Ok(made)
+    }
+}
+
+/// What an address order does to an address.
+#[derive(Clone, Copy, Debug, PartialEq, Eq, PartialOrd, Ord)]
+pub enum Change {
+    Set,
+    Add,
+    Sub,
+}
+
+/// The orders that are built.
+#[derive(Clone, Copy, Debug, PartialEq, Eq, PartialOrd, Ord)]
+pub enum Code {
+    OfTwo(OfTwo),
+    OfOne(OfOne),
+    Move000,
+    CondStop,
+    UncStop,
+    TrSgn,
+    TrExp,
+    Tr,
+    TrSubr,
+    /// Which of the counts A, B, C are named.
+    Loop([bool; 3]),
+    Change(Change, Field),
+    Pch,
+    Read,
+    StartTr,
+    StopTr,
+    StTrEras,
+    Noop,
+}
+
+/// Every built code with its O1, its A or O2 (codes 1 to 5 take any A), and its name in the
+/// newsletter's list.
+pub const BUILT: [(u64, u64, Code, &str); 36] = [
+    (1, 0, Code::OfTwo(OfTwo::Add), "ADD"),
+    (2, 0, Code::OfTwo(OfTwo::Sub), "SUB"),
+    (3, 0, Code::OfTwo(OfTwo::Mpy), "MPY"),
+    (4, 0, Code::OfTwo(OfTwo::Div), "DIV"),
+    (5, 0, Code::OfTwo(OfTwo::Ngmpy), "NGMPY"),
+    (9, 0, Code::Move000, "MOVE 000"),
+    (0, 0, Code::UncStop, "UNC STOP"),
+    (0, 200, Code::CondStop, "COND STOP"),
+    (0, 201, Code::TrSgn, "TR SGN"),
+    (0, 202, Code::TrExp, "TR EXP"),
+    (0, 203, Code::Tr, "TR"),
+    (0, 204, Code::TrSubr, "TR SUBR"),
+    (0, 100, Code::Loop([true, false, false]), "LOOP A"),
+    (0, 10, Code::Loop([false, true, false]), "LOOP B"),
+    (0, 1, Code::Loop([false, false, true]), "LOOP C"),
+    (0, 110, Code::Loop([true, true, false]), "LOOP AB"),
+    (0, 101, Code::Loop([true, false, true]), "LOOP AC"),
+    (0, 11, Code::Loop([false, true, true]), "LOOP BC"),
+    (0, 111, Code::Loop([true, true, true]), "LOOP ABC"),
+    (0, 500, Code::Change(Change::Set, Field::A), "SET A"),
+    (0, 50, Code::Change(Change::Set, Field::B), "SET B"),
+    (0, 5, Code::Change(Change::Set, Field::C), "SET C"),
+    (0, 600, Code::Change(Change::Add, Field::A), "ADD A"),
+    (0, 60, Code::Change(Change::Add, Field::B), "ADD B"),
+    (0, 6, Code::Change(Change::Add, Field::C), "ADD C"),
+    (0, 700, Code::Change(Change::Sub, Field::A), "SUB A"),
+    (0, 70, Code::Change(Change::Sub, Field::B), "SUB B"),
+    (0, 7, Code::Change(Change::Sub, Field::C), "SUB C"),
+    (0, 300, Code::OfOne(OfOne::Sqrt), "SQRT"),
+    (0, 350, Code::OfOne(OfOne::Abs), "ABS"),
+    (0, 400, Code::Read, "READ"),
+    (0, 410, Code::Pch, "PCH"),
+    (0, 450, Code::StartTr, "START TR"),
+    (0, 451, Code::StopTr, "STOP TR"),
+    (0, 452, Code::StTrEras, "ST TR ERAS"),
+    (0, 454, Code::Noop, "NOOP"),
+];
+
+/// The code of an order as done, or none if it is not built.
+pub fn code(order: Order) -> Option<Code> {
+    let built = BUILT.iter().find(|(o1, o2, _, _)| match order.o1 {
+        1..=5 => *o1 == order.o1,
+        _ => *o1 == order.o1 && *o2 == order.a,
+    });
+    built.map(|(_, _, code, _)| *code)
+}
+
+impl Code {
+    pub fn name(self) -> &'static str {
+        let entry = BUILT.iter().find(|(_, _, code, _)| *code == self);
+        entry.expect("every code stands in the table").3
+    }
+}
+
+#[cfg(test)]
+mod tests {
+    use super::*;
+
+    #[test]
+    fn a_word_is_an_order_and_back() {
+        let word = Word::of_text(b"-0410202203");
+        let order = Order::of_word(word);
+        assert_eq!(order, Order { minus: true, o1: 0, a: 410, b: 202, c: 203 });
+        assert_eq!(order.word(), word);
+    }
+
+    #[test]
+    fn the_loop_box_adds_to_all_three_or_refuses() {
+        let order = Order { minus: true, o1: 0, a: 454, b: 0, c: 999 };
+        assert_eq!(order.made_with([1, 2, 0]), Ok(Order { a: 455, b: 2, ..order }));
+        assert_eq!(order.made_with([0, 0, 1]), Err(Reason::SumAbove999(Field::C)));
+        let plus = Order { minus: false, ..order };
+        assert_eq!(plus.made_with([999, 999, 999]), Ok(plus));
+    }
+
+    #[test]
+    fn the_codes_that_are_built() {
+        let built = |o1, a| code(Order { minus: false, o1, a, b: 0, c: 0 }).is_some();
+        assert_eq!((0..1000).filter(|&a| built(0, a)).count(), 30);
+        for o1 in 1..=5 {
+            assert!((0..1000).all(|a| built(o1, a)));
+        }
+        for o1 in 6..=8 {
+            assert!((0..1000).all(|a| !built(o1, a)));
+        }
+        assert!(built(9, 0) && (1..1000).all(|a| !built(9, a)));
+        for o2 in [2, 205, 301, 305, 351, 355, 401, 453, 112, 200 + 10] {
+            assert!(!built(0, o2));
+        }
+        for digits in 1..8 {
+            let named = [digits & 4 != 0, digits & 2 != 0, digits & 1 != 0];
+            let o2 = named.iter().fold(0, |value, &one| value * 10 + one as u64);
+            assert_eq!(code(Order { minus: false, o1: 0, a: o2, b: 0, c: 0 }), Some(Code::Loop(named)));
+        }
+    }
+}

@@ -1,0 +1,93 @@
+//! 10, 11, 12, load, and what a run asks of its state.
+
+use super::Job;
+
+const DECK: &str = "10000500+0000000001000T10100710000001+0000000000000";
+
+fn number_of_run(change: impl FnOnce(&mut Job)) -> u64 {
+    let mut job = Job::new().with_deck(DECK).with(101, &["+0454000000"]);
+    job.state[6] = 29;
+    change(&mut job);
+    let before = (job.cells.clone(), job.marks.clone(), job.state.clone());
+    let ended = job.run(1);
+    if ended.number >= 10 {
+        assert_eq!((ended.count, ended.shown, ended.written), (0, 0, 0));
+        assert_eq!(before, (job.cells.clone(), job.marks.clone(), job.state.clone()));
+    }
+    ended.number
+}
+
+#[test]
+fn lines_of_10() {
+    assert_eq!(number_of_run(|job| job.cells.push(0)), 10);
+    assert_eq!(number_of_run(|job| job.marks.truncate(999)), 10);
+    assert_eq!(number_of_run(|job| job.marks[999] = 2), 10);
+    assert_eq!(number_of_run(|job| job.cells[101] = 20_000_000_000), 10);
+    assert_eq!(number_of_run(|job| job.cells[102] = 20_000_000_000), 2);
+    assert_eq!(number_of_run(|job| job.cells[101] = 19_999_999_999), 23);
+}
+
+#[test]
+fn lines_of_12() {
+    let broken = [(0, 1_001), (1, 1_000), (2, 1_000), (3, 1_000), (4, 10_000), (5, 1_000), (7, 2), (8, 2), (8, 1)];
+    for (at, value) in broken {
+        assert_eq!(number_of_run(|job| job.state[at] = value), 12, "state {at}");
+    }
+    assert_eq!(number_of_run(|job| job.marks[0] = 0), 12);
+    assert_eq!(number_of_run(|job| job.state.push(0)), 12);
+    assert_eq!(number_of_run(|job| job.state.truncate(8)), 12);
+    for (reader, number) in [(0, 12), (22, 12), (28, 12), (29, 2), (30, 12), (51, 2), (52, 12), (u64::MAX, 12)] {
+        assert_eq!(number_of_run(|job| job.state[6] = reader), number, "reader {reader}");
+    }
+}
+
+#[test]
+fn budget_and_location() {
+    let mut job = Job::new();
+    assert_eq!(job.run(1_000_000).number, 12);
+    assert_eq!(job.refused(0), (2, 0));
+    job.state[0] = 1_000;
+    assert_eq!(job.refused(0), (2, 0));
+    assert_eq!(job.refused(1), (20, 0));
+    job.state[0] = 1_001;
+    assert_eq!(job.run(0).number, 12);
+    job.state[0] = 0;
+    assert_eq!(job.refused(1), (20, 0));
+    job.state[0] = 999;
+    assert_eq!(job.refused(1), (21, 0));
+}
+
+#[test]
+fn ten_comes_before_eleven_before_twelve() {
+    let mut job = Job::new().with_deck("T101007?");
+    job.state[0] = 5_000;
+    assert_eq!((job.run(1).number, job.run(1).place), (11, 7));
+    job.marks[3] = 9;
+    assert_eq!((job.run(1).number, job.run(1).place), (10, 0));
+}
+
+#[test]
+fn load_judges_no_state_and_gives_it_back_when_it_refuses() {
+    let mut job = Job::new().with_deck("T101007T101007");
+    job.state = vec![u64::MAX; 9];
+    assert_eq!(job.load(true), (11, 7));
+    assert_eq!(job.state, vec![u64::MAX; 9]);
+    job.deck = DECK.to_string();
+    job.cells[0] = 20_000_000_000;
+    assert_eq!(job.load(true), (10, 0));
+    job.marks[0] = 0;
+    assert_eq!(job.load(true), (0, 0));
+    assert_eq!(job.state, [101, 0, 0, 0, 0, 7, 29, 1, 1]);
+    assert_eq!((job.word(0), job.word(500)), ("+0000000000".to_string(), "+0000000001".to_string()));
+    job.state = vec![7; 10];
+    assert_eq!((job.load(false), job.state), ((12, 0), vec![7; 10]));
+}
+
+#[test]
+fn load_keeps_other_cells_and_lets_later_words_win() {
+    let mut job = Job::new().with(700, &["-7777777777"]);
+    job.deck = "20000500+0000000001+000000000200010000501-0000000003000T501999".to_string();
+    assert_eq!(job.load(false), (0, 0));
+    assert_eq!((job.word(700), job.word(501)), ("-7777777777".to_string(), "-0000000003".to_string()));
+    assert_eq!((job.marks[502], job.cells[502]), (0, super::STRAY));
+}

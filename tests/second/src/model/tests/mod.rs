@@ -1,0 +1,114 @@
+//! Worked sessions on the model.
+
+mod entry;
+mod orders;
+mod paper;
+mod tracing;
+
+use super::calls::{load, run, Ended, Run};
+use super::word::Word;
+
+/// A drum, its marks, a deck and a state, with room for a few cards.
+struct Job {
+    cells: Vec<u64>,
+    marks: Vec<u8>,
+    deck: String,
+    state: Vec<u64>,
+    out: Vec<u8>,
+}
+
+/// What no rule may read.
+const STRAY: u64 = u64::MAX;
+
+impl Job {
+    /// Nothing but cell 000 is marked; the other cells hold what is no word.
+    fn new() -> Job {
+        let mut job = Job {
+            cells: vec![STRAY; 1_000],
+            marks: vec![0; 1_000],
+            deck: "T101007".to_string(),
+            state: vec![101, 0, 0, 0, 0, 7, 7, 0, 0],
+            out: vec![b'.'; 400],
+        };
+        job.put(0, "+0000000000");
+        job
+    }
+
+    fn traced() -> Job {
+        let mut job = Job::new();
+        (job.state[7], job.state[8]) = (1, 1);
+        job
+    }
+
+    /// Words from a location on.
+    fn with(mut self, location: usize, words: &[&str]) -> Job {
+        for (cell, word) in (location..).zip(words) {
+            self.put(cell, word);
+        }
+        self
+    }
+
+    fn put(&mut self, cell: usize, word: &str) {
+        self.cells[cell] = Word::of_text(word.as_bytes()).cell();
+        self.marks[cell] = 1;
+    }
+
+    fn with_counts(mut self, counts: [u64; 3]) -> Job {
+        self.state[1..4].copy_from_slice(&counts);
+        self
+    }
+
+    fn with_deck(mut self, deck: &str) -> Job {
+        self.deck = deck.to_string();
+        self
+    }
+
+    fn with_room(mut self, room: usize) -> Job {
+        self.out.resize(room, b'.');
+        self
+    }
+
+    fn load(&mut self, traced: bool) -> (u64, u64) {
+        let deck = self.deck.as_bytes();
+        load(&mut self.cells, &mut self.marks, deck, &mut self.state, traced, &mut |_| {})
+    }
+
+    fn run(&mut self, budget: u64) -> Ended {
+        self.run_with(budget, false)
+    }
+
+    fn run_with(&mut self, budget: u64, switch_on_stop: bool) -> Ended {
+        let lent = Run {
+            cells: &mut self.cells,
+            marks: &mut self.marks,
+            deck: self.deck.as_bytes(),
+            out: &mut self.out,
+            state: &mut self.state,
+            budget,
+            switch_on_stop,
+        };
+        run(lent, &mut |_| {})
+    }
+
+    /// A run's number and count, with all that a refused order must leave alone checked.
+    fn refused(&mut self, budget: u64) -> (u64, u64) {
+        let ended = self.run(budget);
+        assert_eq!((ended.place, ended.shown), (0, 0));
+        (ended.number, ended.count)
+    }
+
+    fn word(&self, cell: usize) -> String {
+        assert_eq!(self.marks[cell], 1, "cell {cell} is unmarked");
+        Word::of_cell(self.cells[cell]).expect("a marked cell holds a word").text()
+    }
+
+    fn location(&self) -> u64 {
+        self.state[0]
+    }
+
+    fn written(&self, ended: Ended) -> &str {
+        let (cards, rest) = self.out.split_at(ended.written as usize);
+        assert!(rest.iter().all(|&byte| byte == b'.'), "the output behind the cards was touched");
+        std::str::from_utf8(cards).expect("cards are ASCII")
+    }
+}

@@ -1,0 +1,133 @@
+//! The cases: one for each index of a stream.
+
+use super::operands::{any, any_number, digits, exponent, number, signed};
+use super::shapes;
+use crate::chance::Chance;
+
+#[derive(Clone, Copy, Debug, PartialEq, Eq)]
+pub struct Case {
+    pub operation: u64,
+    pub a: u64,
+    /// 0 for the operations of one operand.
+    pub b: u64,
+}
+
+pub const ADD: u64 = 0;
+pub const SUB: u64 = 1;
+pub const MPY: u64 = 2;
+pub const DIV: u64 = 3;
+pub const NGMPY: u64 = 4;
+pub const SQRT: u64 = 5;
+pub const ABS: u64 = 6;
+
+/// Marks this stream apart from the others of the same seed.
+const KIND: u64 = 1;
+
+/// P1 to P10 of the paper's table come first in every stream.
+const TABLE: [(u64, u64, u64); 10] = [
+    (ADD, 1_000_000_050, 1_000_000_050),
+    (SUB, 1_000_000_050, 1_000_000_050),
+    (DIV, 1_000_000_050, 3_000_000_050),
+    (DIV, 2_000_000_050, 3_000_000_050),
+    (ADD, 9_999_999_950, 5_000_000_042),
+    (ADD, 9_999_999_999, 5_000_000_091),
+    (MPY, 1_000_000_000, 1_000_000_049),
+    (DIV, 0, 0),
+    (NGMPY, 2_000_000_050, 3_000_000_050),
+    (SQRT, 2_000_000_050, 0),
+];
+
+/// How often each operation is drawn, in hundredths.
+const SHARES: [(u64, u64); 7] = [(ADD, 22), (SUB, 22), (MPY, 16), (DIV, 18), (NGMPY, 6), (SQRT, 12), (ABS, 4)];
+
+pub fn case(seed: u64, index: u64) -> Case {
+    if let Some(&(operation, a, b)) = TABLE.get(index as usize) {
+        return Case { operation, a, b };
+    }
+    let chance = &mut Chance::of_case(seed, KIND, index);
+    let operation = drawn(chance);
+    let (a, b) = operands(operation, chance);
+    Case { operation, a, b }
+}
+
+fn drawn(chance: &mut Chance) -> u64 {
+    let mut rest = chance.below(100);
+    for (operation, share) in SHARES {
+        if rest < share {
+            return operation;
+        }
+        rest -= share;
+    }
+    unreachable!("the shares make a hundred")
+}
+
+fn operands(operation: u64, chance: &mut Chance) -> (u64, u64) {
+    match operation {
+        SQRT => (root_operand(chance), 0),
+        ABS => (any(chance), 0),
+        _ if chance.one_in(8) => (any(chance), any(chance)),
+        ADD | SUB => sum_operands(operation, chance),
+        MPY | NGMPY => product_operands(chance),
+        _ => quotient_operands(chance),
+    }
+}
+
+fn sum_operands(operation: u64, chance: &mut Chance) -> (u64, u64) {
+    match chance.below(8) {
+        0 => (any_number(chance), any_number(chance)),
+        1 | 2 => shapes::close_exponents(chance),
+        3 => shapes::far_exponents(chance),
+        4 | 5 => shapes::tie_of_sum(operation == SUB, chance),
+        6 => shapes::carry(operation == SUB, chance),
+        _ => shapes::cancellation(operation == SUB, chance),
+    }
+}
+
+fn product_operands(chance: &mut Chance) -> (u64, u64) {
+    match chance.below(6) {
+        0 => (any_number(chance), any_number(chance)),
+        1 | 2 => shapes::tie_of_product(chance),
+        3 => shapes::product_below_a_power(chance),
+        _ => {
+            let (m, n) = (digits(chance), digits(chance));
+            shapes::product_at_the_edge(chance, m, n)
+        }
+    }
+}
+
+fn quotient_operands(chance: &mut Chance) -> (u64, u64) {
+    match chance.below(8) {
+        0 => (any_number(chance), any_number(chance)),
+        1 | 2 => shapes::tie_of_quotient(chance),
+        3 => shapes::quotient_near_eight_digits(chance),
+        4 => (any_number(chance), 0),
+        _ => {
+            let (m, n) = (digits(chance), digits(chance));
+            shapes::quotient_at_the_edge(chance, m, n)
+        }
+    }
+}
+
+fn root_operand(chance: &mut Chance) -> u64 {
+    match chance.below(6) {
+        0 => any(chance),
+        1 => {
+            let (m, a) = (digits(chance), exponent(chance));
+            signed(chance, m, a)
+        }
+        2 => number(false, digits(chance), exponent(chance)),
+        _ => shapes::near_a_square(chance),
+    }
+}
+
+#[cfg(test)]
+mod tests {
+    use super::*;
+
+    #[test]
+    fn a_case_depends_on_seed_and_index_alone() {
+        assert_eq!(case(7, 1000), case(7, 1000));
+        assert_ne!(case(7, 1000), case(8, 1000));
+        assert_ne!(case(7, 1000), case(7, 1001));
+    }
+}
