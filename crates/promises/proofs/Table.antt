@@ -10,5 +10,5 @@ use Rattle.rules.specs.Running
 use Rattle.promises.specs.Table.{AllRows, rows}
 
 pub all-rows : AllRows
-unfolding rows Words.isNumber Rounding.nearest Rounding.place Rounding.placed Rounding.settled Rounding.grown Rounding.rootBelow Rounding.sum Rounding.sumOf Rounding.differenceOf Rounding.productOf Rounding.quotientOf Rounding.rootOf Arithmetic.addOf Arithmetic.subOf Arithmetic.mpyOf Arithmetic.divOf Arithmetic.ngmpyOf Arithmetic.sqrtOf Codes.codes Codes.lookup Codes.codeIn Codes.checked Orders.performed Running.obeyed Running.traced Running.fetched Running.step
+unfolding rows Words.isNumber Rounding.nearest Rounding.place Rounding.placed Rounding.settled Rounding.grown Rounding.rootBelow Rounding.sum Rounding.sumOf Rounding.differenceOf Rounding.productOf Rounding.quotientOf Rounding.rootOf Arithmetic.addOf Arithmetic.subOf Arithmetic.mpyOf Arithmetic.divOf Arithmetic.ngmpyOf Arithmetic.sqrtOf Codes.codes Codes.lookup Codes.codeIn Codes.checked Orders.performed Orders.gone Running.obeyed Running.traced Running.fetched Running.step
 all-rows = refl

@@ -7,13 +7,12 @@ use lib.Dec.{eqb, leb, ltb}
 use lib.ListN.{length, getD, drop}
 use Rattle.rules.specs.Words.{pick, both, exponentIn, withAddress, addressIn, digitsIn, worthA, worthB, worthC}
 use Rattle.rules.specs.Numbers.{mayGoOn}
-use Rattle.rules.specs.Arithmetic.{addOf, subOf, mpyOf, divOf, ngmpyOf, sqrtOf, absOf}
 use Rattle.rules.specs.Drum.{cellAt, wordAt, store, marksOf}
 use Rattle.rules.specs.Cards.{wordIn, wordPlace}
 use Rattle.rules.specs.Decks.{cardAt, wordsStored, cardsStored, judgedFrom}
 use Rattle.rules.specs.Codes.{Checked, clear, fails, codes, lookup, checked}
 use Rattle.rules.specs.Machine.{Machine, Inputs, Answer, counting, clearBox, isTraced, isTracing, tracingSet, withState, stored, goingTo, onward, done, undone}
-use Rattle.rules.specs.Orders.{reckoned, condStopped, largest, raised, five, cardPunched, cardsPunched, punchSize, punched, read, tracingTo, erased, performed}
+use Rattle.rules.specs.Orders.{reckonedBy, reckoned, condStopped, gone, largest, raised, five, cardPunched, cardsPunched, punchSize, punched, read, tracingTo, erased, retraced, performed}
 use Rattle.rules.specs.Running.{Course, allowed, obeyedAs, codeDone, obeyed, asDone, orderFits, traceSent, traceSize, traced, fetched, step, runFrom}
 use Rattle.rules.specs.declared.Cell.{Cell}
 use Rattle.rules.specs.declared.Cell.the-variants.{Foreign, Owned}
@@ -27,7 +26,11 @@ use Rattle.rules.specs.declared.Refusal.the-variants.{BadAddress, NoRoom
 use Rattle.rules.specs.declared.Built.{Built}
 use Rattle.rules.specs.declared.Built.the-variants.{As, No}
 use Rattle.rules.specs.declared.Operation.{Operation}
-use Rattle.rules.specs.declared.Operation.the-variants.{Add, Sub, Mpy, Div, Ngmpy, Move, UncStop, CondStop, TrSgn, TrExp, Tr, TrSubr, Loop, SetTo, AddTo, SubFrom, Sqrt, Abs, Read, Pch, StartTr, StopTr, StTrEras, Noop}
+use Rattle.rules.specs.declared.Operation.the-variants.{Reckon, Move, Go, Loop, Change, Read, Pch, Trace}
+use Rattle.rules.specs.declared.Going.{Going}
+use Rattle.rules.specs.declared.Going.the-variants.{UncStop, CondStop, TrSgn, TrExp, Tr, TrSubr, Noop}
+use Rattle.rules.specs.declared.Tracing.{Tracing}
+use Rattle.rules.specs.declared.Tracing.the-variants.{StartTr, StopTr, StTrEras}
 use Rattle.rules.proofs.Views.{Grows, store-grows}
 
 -- the same cells, or a choice of two
@@ -102,38 +105,37 @@ tracing-grows : (m : Machine) (t : ℕ) → Grows (m .cells) (tracingTo m t .cel
 tracing-grows m t =
     pick-grows (m .cells) (isTraced (m .state)) (withState m (tracingSet (m .state) t)) m (same (m .cells)) (same (m .cells))
 
+retraced-grows : (m : Machine) (t : Tracing) → Grows (m .cells) (retraced m t .cells)
+retraced-grows m StartTr = tracing-grows m 1
+retraced-grows m StopTr = tracing-grows m 0
+retraced-grows m StTrEras =
+    λ k e. store-grows (m .cells) (m .state .location) erased k (tracing-grows (stored m (m .state .location) erased) 1 k e)
+
+gone-grows : (i : Inputs) (m : Machine) (g : Going) (b c : ℕ) → Grows (m .cells) (gone i m g b c .machine .cells)
+unfolding gone
+gone-grows i m UncStop b c = same (m .cells)
+gone-grows i m CondStop b c = cond-grows (i .stop) m b c
+gone-grows i m TrSgn b c = same (m .cells)
+gone-grows i m TrExp b c =
+    pick-grows (m .cells) (leb b (exponentIn (wordAt (m .cells) 0))) (goingTo m c) (onward m) (same (m .cells)) (same (m .cells))
+gone-grows i m Tr b c = same (m .cells)
+gone-grows i m TrSubr b c = store-grows (m .cells) c _
+gone-grows i m Noop b c = same (m .cells)
+
 -- ---- each operation
 
 performed-grows : (i : Inputs) (m : Machine) (o : Operation) (a b c : ℕ) → Grows (m .cells) (performed i m o a b c .machine .cells)
 unfolding performed
-performed-grows i m Add a b c = reckoned-grows m c (addOf (wordAt (m .cells) a) (wordAt (m .cells) b))
-performed-grows i m Sub a b c = reckoned-grows m c (subOf (wordAt (m .cells) a) (wordAt (m .cells) b))
-performed-grows i m Mpy a b c = reckoned-grows m c (mpyOf (wordAt (m .cells) a) (wordAt (m .cells) b))
-performed-grows i m Div a b c = reckoned-grows m c (divOf (wordAt (m .cells) a) (wordAt (m .cells) b))
-performed-grows i m Ngmpy a b c = reckoned-grows m c (ngmpyOf (wordAt (m .cells) a) (wordAt (m .cells) b))
+performed-grows i m (Reckon r) a b c = reckoned-grows m c (reckonedBy r (wordAt (m .cells) a) (wordAt (m .cells) b))
 performed-grows i m Move a b c = result-grows (m .cells) c (wordAt (m .cells) b)
-performed-grows i m UncStop a b c = same (m .cells)
-performed-grows i m CondStop a b c = cond-grows (i .stop) m b c
-performed-grows i m TrSgn a b c = same (m .cells)
-performed-grows i m TrExp a b c =
-    pick-grows (m .cells) (leb b (exponentIn (wordAt (m .cells) 0))) (goingTo m c) (onward m) (same (m .cells)) (same (m .cells))
-performed-grows i m Tr a b c = same (m .cells)
-performed-grows i m TrSubr a b c = store-grows (m .cells) c _
+performed-grows i m (Go g) a b c = gone-grows i m g b c
 performed-grows i m (Loop x y z) a b c =
     pick-grows (m .cells) (ltb (largest (m .state) x y z) b) (goingTo (withState m (counting (m .state) (raised (m .state) x y z))) c)
     (onward (withState m (counting (m .state) clearBox))) (same (m .cells)) (same (m .cells))
-performed-grows i m (SetTo worth) a b c = store-grows (m .cells) b _
-performed-grows i m (AddTo worth) a b c = store-grows (m .cells) b _
-performed-grows i m (SubFrom worth) a b c = store-grows (m .cells) b _
-performed-grows i m Sqrt a b c = reckoned-grows m c (sqrtOf (wordAt (m .cells) b))
-performed-grows i m Abs a b c = reckoned-grows m c (absOf (wordAt (m .cells) b))
+performed-grows i m (Change k worth) a b c = store-grows (m .cells) b _
 performed-grows i m Read a b c = read-grows i m (judgedFrom 1000 (i .deck) (m .state .reader) b c)
 performed-grows i m Pch a b c = punched-grows i m b (c + 1 - b)
-performed-grows i m StartTr a b c = tracing-grows m 1
-performed-grows i m StopTr a b c = tracing-grows m 0
-performed-grows i m StTrEras a b c =
-    λ k e. store-grows (m .cells) (m .state .location) erased k (tracing-grows (stored m (m .state .location) erased) 1 k e)
-performed-grows i m Noop a b c = same (m .cells)
+performed-grows i m (Trace t) a b c = retraced-grows m t
 
 -- ---- a whole order, and a run
 

@@ -9,12 +9,11 @@ use lib.Dec.{eqb, leb}
 use lib.ListN.{length}
 use Rattle.rules.specs.Words.{pick, both, addressIn, worthA, worthB, worthC}
 use Rattle.rules.specs.Numbers.{triesAgain}
-use Rattle.rules.specs.Arithmetic.{addOf, subOf, mpyOf, divOf, ngmpyOf, sqrtOf, absOf}
 use Rattle.rules.specs.Drum.{cellAt, wordAt}
 use Rattle.rules.specs.Decks.{judgedFrom}
 use Rattle.rules.specs.Codes.{Checked, clear, fails, codes, lookup, codeIn, checked, pchCode}
 use Rattle.rules.specs.Machine.{Machine, Inputs, Answer, isTraced, isTracing, onward, done, undone}
-use Rattle.rules.specs.Orders.{reckoned, condStopped, punchSize, cardsPunched, punched, read, performed}
+use Rattle.rules.specs.Orders.{reckonedBy, reckoned, condStopped, gone, punchSize, cardsPunched, punched, read, performed}
 use Rattle.rules.specs.Running.{allowed, obeyedAs, codeDone, obeyed, asDone, orderFits, traceSent, traceSize, traced, fetched, step, Left}
 use Rattle.rules.specs.declared.Cell.{Cell}
 use Rattle.rules.specs.declared.Cell.the-variants.{Foreign, Owned}
@@ -26,7 +25,9 @@ use Rattle.rules.specs.declared.Refusal.the-variants.{BadAddress, Unmark
 use Rattle.rules.specs.declared.Built.{Built}
 use Rattle.rules.specs.declared.Built.the-variants.{As, No}
 use Rattle.rules.specs.declared.Operation.{Operation}
-use Rattle.rules.specs.declared.Operation.the-variants.{Add, Sub, Mpy, Div, Ngmpy, Move, UncStop, CondStop, TrSgn, TrExp, Tr, TrSubr, Loop, SetTo, AddTo, SubFrom, Sqrt, Abs, Read, Pch, StartTr, StopTr, StTrEras, Noop}
+use Rattle.rules.specs.declared.Operation.the-variants.{Reckon, Move, Go, Loop, Change, Read, Pch, Trace}
+use Rattle.rules.specs.declared.Going.{Going}
+use Rattle.rules.specs.declared.Going.the-variants.{UncStop, CondStop, TrSgn, TrExp, Tr, TrSubr, Noop}
 
 -- if the order is to be tried again, the machine is as it was
 abbrev pub Stays : Machine → Answer → Type 0
@@ -57,32 +58,26 @@ unfolding punched
 punched-stays i m b n =
     pick-stays m (leb (length (m .sent) + punchSize n) (i .room)) (done (onward (cardsPunched n m b n))) (undone NoRoom m) not-again (λ e. refl)
 
+gone-stays : (i : Inputs) (m : Machine) (g : Going) (b c : ℕ) → Stays m (gone i m g b c)
+unfolding gone
+gone-stays i m UncStop b c = λ e. refl
+gone-stays i m CondStop b c = cond-stays (i .stop) m b c
+gone-stays i m TrSgn b c = not-again
+gone-stays i m TrExp b c = not-again
+gone-stays i m Tr b c = not-again
+gone-stays i m TrSubr b c = not-again
+gone-stays i m Noop b c = not-again
+
 pub performed-stays : (i : Inputs) (m : Machine) (o : Operation) (a b c : ℕ) → Stays m (performed i m o a b c)
 unfolding performed
-performed-stays i m Add a b c = reckoned-stays m c (addOf (wordAt (m .cells) a) (wordAt (m .cells) b))
-performed-stays i m Sub a b c = reckoned-stays m c (subOf (wordAt (m .cells) a) (wordAt (m .cells) b))
-performed-stays i m Mpy a b c = reckoned-stays m c (mpyOf (wordAt (m .cells) a) (wordAt (m .cells) b))
-performed-stays i m Div a b c = reckoned-stays m c (divOf (wordAt (m .cells) a) (wordAt (m .cells) b))
-performed-stays i m Ngmpy a b c = reckoned-stays m c (ngmpyOf (wordAt (m .cells) a) (wordAt (m .cells) b))
+performed-stays i m (Reckon r) a b c = reckoned-stays m c (reckonedBy r (wordAt (m .cells) a) (wordAt (m .cells) b))
 performed-stays i m Move a b c = not-again
-performed-stays i m UncStop a b c = λ e. refl
-performed-stays i m CondStop a b c = cond-stays (i .stop) m b c
-performed-stays i m TrSgn a b c = not-again
-performed-stays i m TrExp a b c = not-again
-performed-stays i m Tr a b c = not-again
-performed-stays i m TrSubr a b c = not-again
+performed-stays i m (Go g) a b c = gone-stays i m g b c
 performed-stays i m (Loop x y z) a b c = not-again
-performed-stays i m (SetTo worth) a b c = not-again
-performed-stays i m (AddTo worth) a b c = not-again
-performed-stays i m (SubFrom worth) a b c = not-again
-performed-stays i m Sqrt a b c = reckoned-stays m c (sqrtOf (wordAt (m .cells) b))
-performed-stays i m Abs a b c = reckoned-stays m c (absOf (wordAt (m .cells) b))
+performed-stays i m (Change k worth) a b c = not-again
 performed-stays i m Read a b c = read-stays i m (judgedFrom 1000 (i .deck) (m .state .reader) b c)
 performed-stays i m Pch a b c = punched-stays i m b (c + 1 - b)
-performed-stays i m StartTr a b c = not-again
-performed-stays i m StopTr a b c = not-again
-performed-stays i m StTrEras a b c = not-again
-performed-stays i m Noop a b c = not-again
+performed-stays i m (Trace t) a b c = not-again
 
 allowed-stays : (i : Inputs) (m : Machine) (o : Operation) (a b c : ℕ) (k : Checked) → Stays m (allowed i m o a b c k)
 allowed-stays i m o a b c clear = performed-stays i m o a b c
@@ -130,5 +125,5 @@ step-leaves i m =
 -- In traced mode PCH goes on to the next order and does nothing else, whatever its addresses.
 pub pch-idle : (i : Inputs) (m : Machine) (w : ℕ) → isTraced (m .state) ≡ true → eqb (codeIn w) pchCode ≡ true
     → obeyed i m w ≡ done (onward m)
-unfolding obeyed codes lookup checked performed
+unfolding obeyed codes lookup checked performed gone
 pch-idle i m w t k = rw (t, k)

@@ -10,7 +10,11 @@ use Rattle.rules.specs.declared.Cell.{Cell}
 use Rattle.rules.specs.declared.Refusal.{Refusal}
 use Rattle.rules.specs.declared.Refusal.the-variants.{BadAddress, Unmarked, NotNumber}
 use Rattle.rules.specs.declared.Operation.{Operation}
-use Rattle.rules.specs.declared.Operation.the-variants.{Add, Sub, Mpy, Div, Ngmpy, Move, UncStop, CondStop, TrSgn, TrExp, Tr, TrSubr, Loop, SetTo, AddTo, SubFrom, Sqrt, Abs, Read, Pch, StartTr, StopTr, StTrEras, Noop}
+use Rattle.rules.specs.declared.Operation.the-variants.{Reckon, Move, Go, Loop, Change, Read, Pch, Trace}
+use Rattle.rules.specs.declared.Reckoning.the-variants.{Add, Sub, Mpy, Div, Ngmpy, Sqrt, Abs}
+use Rattle.rules.specs.declared.Going.the-variants.{UncStop, CondStop, TrSgn, TrExp, Tr, TrSubr, Noop}
+use Rattle.rules.specs.declared.Changing.the-variants.{SetTo, AddTo, SubFrom}
+use Rattle.rules.specs.declared.Tracing.the-variants.{StartTr, StopTr, StTrEras}
 use Rattle.rules.specs.declared.Class.{Class}
 use Rattle.rules.specs.declared.Class.the-variants.{Free, TwoNumbers, OneNumber, OneWord, Changed, Linked, BlockOut, BlockIn}
 use Rattle.rules.specs.declared.Built.{Built}
@@ -33,18 +37,18 @@ noopCode = 454
 
 unfoldable pub codes : List Row
 codes =
-    row 1000 Add TwoNumbers ∷
-    row 2000 Sub TwoNumbers ∷
-    row 3000 Mpy TwoNumbers ∷
-    row 4000 Div TwoNumbers ∷
-    row 5000 Ngmpy TwoNumbers ∷
+    row 1000 (Reckon Add) TwoNumbers ∷
+    row 2000 (Reckon Sub) TwoNumbers ∷
+    row 3000 (Reckon Mpy) TwoNumbers ∷
+    row 4000 (Reckon Div) TwoNumbers ∷
+    row 5000 (Reckon Ngmpy) TwoNumbers ∷
     row 9000 Move OneWord ∷
-    row 000 UncStop Free ∷
-    row 200 CondStop Free ∷
-    row 201 TrSgn Free ∷
-    row 202 TrExp Free ∷
-    row 203 Tr Free ∷
-    row 204 TrSubr Linked ∷
+    row 000 (Go UncStop) Free ∷
+    row 200 (Go CondStop) Free ∷
+    row 201 (Go TrSgn) Free ∷
+    row 202 (Go TrExp) Free ∷
+    row 203 (Go Tr) Free ∷
+    row 204 (Go TrSubr) Linked ∷
     row 100 (Loop 1 0 0) Free ∷
     row 010 (Loop 0 1 0) Free ∷
     row 001 (Loop 0 0 1) Free ∷
@@ -52,23 +56,23 @@ codes =
     row 101 (Loop 1 0 1) Free ∷
     row 011 (Loop 0 1 1) Free ∷
     row 111 (Loop 1 1 1) Free ∷
-    row 500 (SetTo worthA) Changed ∷
-    row 050 (SetTo worthB) Changed ∷
-    row 005 (SetTo worthC) Changed ∷
-    row 600 (AddTo worthA) Changed ∷
-    row 060 (AddTo worthB) Changed ∷
-    row 006 (AddTo worthC) Changed ∷
-    row 700 (SubFrom worthA) Changed ∷
-    row 070 (SubFrom worthB) Changed ∷
-    row 007 (SubFrom worthC) Changed ∷
-    row 300 Sqrt OneNumber ∷
-    row 350 Abs OneNumber ∷
+    row 500 (Change SetTo worthA) Changed ∷
+    row 050 (Change SetTo worthB) Changed ∷
+    row 005 (Change SetTo worthC) Changed ∷
+    row 600 (Change AddTo worthA) Changed ∷
+    row 060 (Change AddTo worthB) Changed ∷
+    row 006 (Change AddTo worthC) Changed ∷
+    row 700 (Change SubFrom worthA) Changed ∷
+    row 070 (Change SubFrom worthB) Changed ∷
+    row 007 (Change SubFrom worthC) Changed ∷
+    row 300 (Reckon Sqrt) OneNumber ∷
+    row 350 (Reckon Abs) OneNumber ∷
     row 400 Read BlockIn ∷
     row 410 Pch BlockOut ∷
-    row 450 StartTr Free ∷
-    row 451 StopTr Free ∷
-    row 452 StTrEras Free ∷
-    row 454 Noop Free ∷ []
+    row 450 (Trace StartTr) Free ∷
+    row 451 (Trace StopTr) Free ∷
+    row 452 (Trace StTrEras) Free ∷
+    row 454 (Go Noop) Free ∷ []
 
 -- the first row with that code
 unfoldable pub lookup : ℕ → List Row → Built

@@ -20,12 +20,30 @@ use Rattle.rules.specs.declared.Judged.{Judged}
 use Rattle.rules.specs.declared.Judged.the-variants.{Fits, Fails}
 use Rattle.rules.specs.declared.Outcome.the-variants.{Stopped, Paused}
 use Rattle.rules.specs.declared.Operation.{Operation}
-use Rattle.rules.specs.declared.Operation.the-variants.{Add, Sub, Mpy, Div, Ngmpy, Move, UncStop, CondStop, TrSgn, TrExp, Tr, TrSubr, Loop, SetTo, AddTo, SubFrom, Sqrt, Abs, Read, Pch, StartTr, StopTr, StTrEras, Noop}
+use Rattle.rules.specs.declared.Operation.the-variants.{Reckon, Move, Go, Loop, Change, Read, Pch, Trace}
+use Rattle.rules.specs.declared.Reckoning.{Reckoning}
+use Rattle.rules.specs.declared.Reckoning.the-variants.{Add, Sub, Mpy, Div, Ngmpy, Sqrt, Abs}
+use Rattle.rules.specs.declared.Going.{Going}
+use Rattle.rules.specs.declared.Going.the-variants.{UncStop, CondStop, TrSgn, TrExp, Tr, TrSubr, Noop}
+use Rattle.rules.specs.declared.Changing.{Changing}
+use Rattle.rules.specs.declared.Changing.the-variants.{SetTo, AddTo, SubFrom}
+use Rattle.rules.specs.declared.Tracing.{Tracing}
+use Rattle.rules.specs.declared.Tracing.the-variants.{StartTr, StopTr, StTrEras}
 
 -- ---- results: stored at C and at 000
 
 abbrev pub resultAt : Machine → ℕ → ℕ → Machine
 resultAt m c w = stored (stored m c w) 0 w
+
+-- of the words x at A and y at B
+abbrev pub reckonedBy : Reckoning → ℕ → ℕ → Reckoned
+reckonedBy Add x y = addOf x y
+reckonedBy Sub x y = subOf x y
+reckonedBy Mpy x y = mpyOf x y
+reckonedBy Div x y = divOf x y
+reckonedBy Ngmpy x y = ngmpyOf x y
+reckonedBy Sqrt x y = sqrtOf y
+reckonedBy Abs x y = absOf y
 
 abbrev pub reckoned : Machine → ℕ → Reckoned → Answer
 reckoned m c (Result w) = done (onward (resultAt m c w))
@@ -52,6 +70,15 @@ exponentTransferred m b c = pick (leb b (exponentIn (wordAt (m .cells) 0))) (goi
 abbrev pub linked : Machine → ℕ → ℕ → Machine
 linked m b c = goingTo (stored m c (withAddress worthC (digitsIn (wordAt (m .cells) c)) b)) c
 
+unfoldable pub gone : Inputs → Machine → Going → ℕ → ℕ → Answer
+gone i m UncStop b c = stops (Stopped (wordAt (m .cells) b)) m
+gone i m CondStop b c = condStopped (i .stop) m b c
+gone i m TrSgn b c = done (signTransferred m b c)
+gone i m TrExp b c = done (exponentTransferred m b c)
+gone i m Tr b c = done (goingTo m c)
+gone i m TrSubr b c = done (linked m b c)
+gone i m Noop b c = done (onward m)
+
 -- ---- loops
 
 -- the box with the named counts raised by one
@@ -67,13 +94,19 @@ looped m x y z b c =
     pick (ltb (largest (m .state) x y z) b) (goingTo (withState m (counting (m .state) (raised (m .state) x y z))) c)
     (onward (withState m (counting (m .state) clearBox)))
 
--- ---- address changes: one address of the word at B becomes new; sign and other digits stay
+-- ---- address changes: one address of the word at B; sign and other digits stay
 
-abbrev pub changed : Machine → ℕ → ℕ → ℕ → Machine
-changed m worth b new = onward (stored m b (withAddress worth (wordAt (m .cells) b) new))
+-- from the address x: C itself, or C added or taken away, modulo 1000
+abbrev pub newAddress : Changing → ℕ → ℕ → ℕ
+newAddress SetTo x c = c
+newAddress AddTo x c = (x + c) % 1000
+newAddress SubFrom x c = (x + 1000 - c) % 1000
 
-abbrev pub addressAt : Machine → ℕ → ℕ → ℕ
-addressAt m worth b = addressIn worth (wordAt (m .cells) b)
+abbrev pub changedWord : Changing → ℕ → ℕ → ℕ → ℕ
+changedWord k worth w c = withAddress worth w (newAddress k (addressIn worth w) c)
+
+abbrev pub changed : Machine → Changing → ℕ → ℕ → ℕ → Machine
+changed m k worth b c = onward (stored m b (changedWord k worth (wordAt (m .cells) b) c))
 
 -- ---- PCH: cells B to C, five a card, the last card the rest
 
@@ -129,30 +162,19 @@ tracingTo m t = pick (isTraced (m .state)) (withState m (tracingSet (m .state) t
 abbrev pub erased : ℕ
 erased = 0454000000
 
+abbrev pub retraced : Machine → Tracing → Machine
+retraced m StartTr = onward (tracingTo m 1)
+retraced m StopTr = onward (tracingTo m 0)
+retraced m StTrEras = onward (tracingTo (stored m (m .state .location) erased) 1)
+
 -- ---- all of them
 
 unfoldable pub performed : Inputs → Machine → Operation → ℕ → ℕ → ℕ → Answer
-performed i m Add a b c = reckoned m c (addOf (wordAt (m .cells) a) (wordAt (m .cells) b))
-performed i m Sub a b c = reckoned m c (subOf (wordAt (m .cells) a) (wordAt (m .cells) b))
-performed i m Mpy a b c = reckoned m c (mpyOf (wordAt (m .cells) a) (wordAt (m .cells) b))
-performed i m Div a b c = reckoned m c (divOf (wordAt (m .cells) a) (wordAt (m .cells) b))
-performed i m Ngmpy a b c = reckoned m c (ngmpyOf (wordAt (m .cells) a) (wordAt (m .cells) b))
+performed i m (Reckon r) a b c = reckoned m c (reckonedBy r (wordAt (m .cells) a) (wordAt (m .cells) b))
 performed i m Move a b c = done (onward (resultAt m c (wordAt (m .cells) b)))
-performed i m UncStop a b c = stops (Stopped (wordAt (m .cells) b)) m
-performed i m CondStop a b c = condStopped (i .stop) m b c
-performed i m TrSgn a b c = done (signTransferred m b c)
-performed i m TrExp a b c = done (exponentTransferred m b c)
-performed i m Tr a b c = done (goingTo m c)
-performed i m TrSubr a b c = done (linked m b c)
+performed i m (Go g) a b c = gone i m g b c
 performed i m (Loop x y z) a b c = done (looped m x y z b c)
-performed i m (SetTo worth) a b c = done (changed m worth b c)
-performed i m (AddTo worth) a b c = done (changed m worth b ((addressAt m worth b + c) % 1000))
-performed i m (SubFrom worth) a b c = done (changed m worth b ((addressAt m worth b + 1000 - c) % 1000))
-performed i m Sqrt a b c = reckoned m c (sqrtOf (wordAt (m .cells) b))
-performed i m Abs a b c = reckoned m c (absOf (wordAt (m .cells) b))
+performed i m (Change k worth) a b c = done (changed m k worth b c)
 performed i m Read a b c = read i m (judgedFrom 1000 (i .deck) (m .state .reader) b c)
 performed i m Pch a b c = punched i m b (c + 1 - b)
-performed i m StartTr a b c = done (onward (tracingTo m 1))
-performed i m StopTr a b c = done (onward (tracingTo m 0))
-performed i m StTrEras a b c = done (onward (tracingTo (stored m (m .state .location) erased) 1))
-performed i m Noop a b c = done (onward m)
+performed i m (Trace t) a b c = done (retraced m t)

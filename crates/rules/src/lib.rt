@@ -66,33 +66,53 @@ pub enum Deck {
     Faulty(DeckFault),
 }
 
-// The built operations. A loop names the counts that it raises (1 for a count that is named, 0 for one that is not), in the order
-// A, B, C; an address change names its address by what one unit of it is worth in the word.
-pub enum Operation {
+// Arithmetic on the numbers at A and B, or at B.
+pub enum Reckoning {
     Add,
     Sub,
     Mpy,
     Div,
     Ngmpy,
-    Move,
+    Sqrt,
+    Abs,
+}
+
+// Stops and transfers.
+pub enum Going {
     UncStop,
     CondStop,
     TrSgn,
     TrExp,
     Tr,
     TrSubr,
-    Loop(u64, u64, u64),
-    SetTo(u64),
-    AddTo(u64),
-    SubFrom(u64),
-    Sqrt,
-    Abs,
-    Read,
-    Pch,
+    Noop,
+}
+
+// Changes of one address of the word at B.
+pub enum Changing {
+    SetTo,
+    AddTo,
+    SubFrom,
+}
+
+// Orders about tracing.
+pub enum Tracing {
     StartTr,
     StopTr,
     StTrEras,
-    Noop,
+}
+
+// The built operations, by family. A loop names the counts that it raises (1 for a count that is named, 0 for one that is not), in the
+// order A, B, C; an address change names its address by what one unit of it is worth in the word.
+pub enum Operation {
+    Reckon(Reckoning),
+    Move,
+    Go(Going),
+    Loop(u64, u64, u64),
+    Change(Changing, u64),
+    Read,
+    Pch,
+    Trace(Tracing),
 }
 
 // Which of an order's addresses are used, and as what.

@@ -1,6 +1,7 @@
 //! The second program: a model of the paper, and judges that compare another implementation with it.
 
 mod chance;
+mod decks;
 mod files;
 mod model;
 mod numbers;
@@ -11,7 +12,10 @@ use std::process::ExitCode;
 const USAGE: &str = "\
 usage: second numbers SEED COUNT FILE
        second judge-numbers SEED COUNT ANSWERS
-       second answer-numbers FILE OUT";
+       second answer-numbers FILE OUT
+       second decks SEED COUNT FILE
+       second judge-decks SEED COUNT ANSWERS
+       second answer-decks FILE OUT";
 
 fn main() -> ExitCode {
     let arguments: Vec<String> = std::env::args().skip(1).collect();
@@ -32,7 +36,7 @@ fn run(arguments: &[&str]) -> Option<bool> {
         ["numbers", seed, count, file] => {
             let (seed, count) = stream(seed, count)?;
             println!("seed {seed}");
-            numbers::files::write(seed, count, file);
+            numbers::write(seed, count, file);
             Some(true)
         }
         ["judge-numbers", seed, count, answers] => {
@@ -40,7 +44,21 @@ fn run(arguments: &[&str]) -> Option<bool> {
             Some(numbers::judge(seed, count, answers))
         }
         ["answer-numbers", file, out] => {
-            numbers::files::answer_all(file, out);
+            numbers::answer_all(file, out);
+            Some(true)
+        }
+        ["decks", seed, count, file] => {
+            let (seed, count) = stream(seed, count)?;
+            println!("seed {seed}");
+            decks::write(seed, count, file);
+            Some(true)
+        }
+        ["judge-decks", seed, count, answers] => {
+            let (seed, count) = stream(seed, count)?;
+            Some(decks::judge(seed, count, answers))
+        }
+        ["answer-decks", file, out] => {
+            decks::answer_all(file, out);
             Some(true)
         }
         _ => None,

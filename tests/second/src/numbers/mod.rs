@@ -5,6 +5,7 @@ mod judge;
 mod operands;
 mod shapes;
 
+use crate::files::{Reading, Writing};
 use crate::model::operation::{of_one, of_two, OfOne, OfTwo};
 use crate::model::stop::{Field, Reason};
 use crate::model::word::Word;
@@ -42,29 +43,23 @@ fn second(case: Case) -> Result<Word, Reason> {
     Word::of_cell(case.b).ok_or(Reason::NotNumber(Field::B))
 }
 
-pub mod files {
-    //! Case and answer files.
-    use super::{answer, cases};
-    use crate::files::{Reading, Writing};
-
-    pub fn write(seed: u64, count: u64, path: &str) {
-        let mut out = Writing::create(path);
-        for index in 0..count {
-            let case = cases::case(seed, index);
-            out.numbers(&[case.operation, case.a, case.b]);
-        }
-        out.finish();
+pub fn write(seed: u64, count: u64, path: &str) {
+    let mut out = Writing::create(path);
+    for index in 0..count {
+        let case = cases::case(seed, index);
+        out.numbers(&[case.operation, case.a, case.b]);
     }
+    out.finish();
+}
 
-    /// The model in the place of the driver.
-    pub fn answer_all(cases: &str, answers: &str) {
-        let mut input = Reading::open(cases);
-        let mut out = Writing::create(answers);
-        while !input.at_end() {
-            let [operation, a, b] = input.some().expect("a whole case");
-            let (number, word) = answer(cases::Case { operation, a, b });
-            out.numbers(&[number, word]);
-        }
-        out.finish();
+/// The model in the place of the driver.
+pub fn answer_all(cases: &str, answers: &str) {
+    let mut input = Reading::open(cases);
+    let mut out = Writing::create(answers);
+    while !input.at_end() {
+        let [operation, a, b] = input.some().expect("a whole case");
+        let (number, word) = answer(Case { operation, a, b });
+        out.numbers(&[number, word]);
     }
+    out.finish();
 }

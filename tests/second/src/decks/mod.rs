@@ -1,0 +1,43 @@
+//! Differential testing of the deck check.
+
+pub mod build;
+mod cases;
+mod judge;
+
+use crate::files::{Reading, Writing};
+use crate::model::deck::check;
+use crate::model::stop::Reason;
+
+pub use judge::judge;
+
+/// The answer of the C call: 0 and 0, or 11 and the place.
+fn answer(deck: &[u8]) -> (u64, u64) {
+    match check(deck) {
+        Ok(_) => (0, 0),
+        Err((fault, place)) => (Reason::Deck(fault).number(), place as u64),
+    }
+}
+
+pub fn write(seed: u64, count: u64, path: &str) {
+    let mut out = Writing::create(path);
+    for index in 0..count {
+        let deck = cases::case(seed, index);
+        out.bytes(&(deck.len() as u32).to_le_bytes());
+        out.bytes(&deck);
+    }
+    out.finish();
+}
+
+/// The model in the place of the driver.
+pub fn answer_all(cases: &str, answers: &str) {
+    let mut input = Reading::open(cases);
+    let mut out = Writing::create(answers);
+    while !input.at_end() {
+        let length = input.bytes(4).expect("the length of a deck");
+        let length = u32::from_le_bytes([length[0], length[1], length[2], length[3]]);
+        let deck = input.bytes(length as u64).expect("a whole deck");
+        let (number, place) = answer(&deck);
+        out.numbers(&[number, place]);
+    }
+    out.finish();
+}
