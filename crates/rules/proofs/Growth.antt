@@ -5,12 +5,12 @@ use mathlib.Core.List.{List}
 use mathlib.Core.Bool.{Bool, true, false}
 use lib.Dec.{eqb, leb, ltb}
 use lib.ListN.{length, getD, drop}
-use Rattle.rules.specs.Words.{pick, both, exponentIn, withAddress, addressIn, digitsIn, worthA, worthB, worthC}
+use Rattle.rules.specs.Words.{pick, both, exponentIn, withAddress, digitsIn, aIn, bIn, cIn}
 use Rattle.rules.specs.Numbers.{mayGoOn}
 use Rattle.rules.specs.Drum.{cellAt, wordAt, store, marksOf}
 use Rattle.rules.specs.Cards.{wordIn, wordPlace}
 use Rattle.rules.specs.Decks.{cardAt, wordsStored, cardsStored, judgedFrom}
-use Rattle.rules.specs.Codes.{Checked, clear, fails, codes, lookup, checked}
+use Rattle.rules.specs.Codes.{codes, lookup, checked}
 use Rattle.rules.specs.Machine.{Machine, Inputs, Answer, counting, clearBox, isTraced, isTracing, tracingSet, withState, stored, goingTo, onward, done, undone}
 use Rattle.rules.specs.Orders.{reckonedBy, reckoned, condStopped, gone, largest, raised, five, cardPunched, cardsPunched, punchSize, punched, read, tracingTo, erased, retraced, performed}
 use Rattle.rules.specs.Running.{Course, allowed, obeyedAs, codeDone, obeyed, asDone, orderFits, traceSent, traceSize, traced, fetched, step, runFrom}
@@ -23,6 +23,8 @@ use Rattle.rules.specs.declared.Reckoned.the-variants.{Result, Refused}
 use Rattle.rules.specs.declared.Judged.{Judged}
 use Rattle.rules.specs.declared.Judged.the-variants.{Fits, Fails}
 use Rattle.rules.specs.declared.Refusal.the-variants.{BadAddress, NoRoom}
+use Rattle.rules.specs.declared.Checked.{Checked}
+use Rattle.rules.specs.declared.Checked.the-variants.{Passes, Refuses}
 use Rattle.rules.specs.declared.Built.{Built}
 use Rattle.rules.specs.declared.Built.the-variants.{As, No}
 use Rattle.rules.specs.declared.Operation.{Operation}
@@ -116,8 +118,7 @@ unfolding gone
 gone-grows i m UncStop b c = same (m .cells)
 gone-grows i m CondStop b c = cond-grows (i .stop) m b c
 gone-grows i m TrSgn b c = same (m .cells)
-gone-grows i m TrExp b c =
-    pick-grows (m .cells) (leb b (exponentIn (wordAt (m .cells) 0))) (goingTo m c) (onward m) (same (m .cells)) (same (m .cells))
+gone-grows i m TrExp b c = same (m .cells)
 gone-grows i m Tr b c = same (m .cells)
 gone-grows i m TrSubr b c = store-grows (m .cells) c _
 gone-grows i m Noop b c = same (m .cells)
@@ -132,7 +133,7 @@ performed-grows i m (Go g) a b c = gone-grows i m g b c
 performed-grows i m (Loop x y z) a b c =
     pick-grows (m .cells) (ltb (largest (m .state) x y z) b) (goingTo (withState m (counting (m .state) (raised (m .state) x y z))) c)
     (onward (withState m (counting (m .state) clearBox))) (same (m .cells)) (same (m .cells))
-performed-grows i m (Change k worth) a b c = store-grows (m .cells) b _
+performed-grows i m (Change k x) a b c = store-grows (m .cells) b _
 performed-grows i m Read a b c = read-grows i m (judgedFrom 1000 (i .deck) (m .state .reader) b c)
 performed-grows i m Pch a b c = punched-grows i m b (c + 1 - b)
 performed-grows i m (Trace t) a b c = retraced-grows m t
@@ -140,8 +141,8 @@ performed-grows i m (Trace t) a b c = retraced-grows m t
 -- ---- a whole order, and a run
 
 allowed-grows : (i : Inputs) (m : Machine) (o : Operation) (a b c : ℕ) (k : Checked) → Grows (m .cells) (allowed i m o a b c k .machine .cells)
-allowed-grows i m o a b c clear = performed-grows i m o a b c
-allowed-grows i m o a b c (fails r) = same (m .cells)
+allowed-grows i m o a b c Passes = performed-grows i m o a b c
+allowed-grows i m o a b c (Refuses r) = same (m .cells)
 
 as-grows : (i : Inputs) (m : Machine) (a b c : ℕ) (k : Built) → Grows (m .cells) (obeyedAs i m a b c k .machine .cells)
 as-grows i m a b c No = same (m .cells)
@@ -150,7 +151,7 @@ as-grows i m a b c (As o k) = allowed-grows i m o a b c (checked k (m .cells) a 
 obeyed-grows : (i : Inputs) (m : Machine) (w : ℕ) → Grows (m .cells) (obeyed i m w .machine .cells)
 unfolding obeyed
 obeyed-grows i m w =
-    as-grows i m (addressIn worthA w) (addressIn worthB w) (addressIn worthC w) (lookup (codeDone (m .state) w) codes)
+    as-grows i m (aIn w) (bIn w) (cIn w) (lookup (codeDone (m .state) w) codes)
 
 traced-grows : (i : Inputs) (m : Machine) (w w′ : ℕ) → Grows (m .cells) (traced i m w w′ .machine .cells)
 unfolding traced

@@ -7,11 +7,11 @@ use mathlib.Core.Bool.{Bool, true, false}
 use native.Mathlib.Omega.{arith}
 use lib.Dec.{eqb, leb}
 use lib.ListN.{length}
-use Rattle.rules.specs.Words.{pick, both, addressIn, worthA, worthB, worthC}
+use Rattle.rules.specs.Words.{pick, both, aIn, bIn, cIn}
 use Rattle.rules.specs.Numbers.{triesAgain}
 use Rattle.rules.specs.Drum.{cellAt, wordAt}
 use Rattle.rules.specs.Decks.{judgedFrom}
-use Rattle.rules.specs.Codes.{Checked, clear, fails, codes, lookup, codeIn, checked, pchCode}
+use Rattle.rules.specs.Codes.{codes, lookup, codeIn, checked, pchCode}
 use Rattle.rules.specs.Machine.{Machine, Inputs, Answer, isTraced, isTracing, onward, done, undone}
 use Rattle.rules.specs.Orders.{reckonedBy, reckoned, condStopped, gone, punchSize, cardsPunched, punched, read, performed}
 use Rattle.rules.specs.Running.{allowed, obeyedAs, codeDone, obeyed, asDone, orderFits, traceSent, traceSize, traced, fetched, step, Left}
@@ -22,6 +22,8 @@ use Rattle.rules.specs.declared.Reckoned.the-variants.{Result, Refused}
 use Rattle.rules.specs.declared.Judged.{Judged}
 use Rattle.rules.specs.declared.Judged.the-variants.{Fits, Fails}
 use Rattle.rules.specs.declared.Refusal.the-variants.{BadAddress, Unmarked, NoRoom, NotBuilt}
+use Rattle.rules.specs.declared.Checked.{Checked}
+use Rattle.rules.specs.declared.Checked.the-variants.{Passes, Refuses}
 use Rattle.rules.specs.declared.Built.{Built}
 use Rattle.rules.specs.declared.Built.the-variants.{As, No}
 use Rattle.rules.specs.declared.Operation.{Operation}
@@ -74,14 +76,14 @@ performed-stays i m (Reckon r) a b c = reckoned-stays m c (reckonedBy r (wordAt 
 performed-stays i m Move a b c = not-again
 performed-stays i m (Go g) a b c = gone-stays i m g b c
 performed-stays i m (Loop x y z) a b c = not-again
-performed-stays i m (Change k worth) a b c = not-again
+performed-stays i m (Change k x) a b c = not-again
 performed-stays i m Read a b c = read-stays i m (judgedFrom 1000 (i .deck) (m .state .reader) b c)
 performed-stays i m Pch a b c = punched-stays i m b (c + 1 - b)
 performed-stays i m (Trace t) a b c = not-again
 
 allowed-stays : (i : Inputs) (m : Machine) (o : Operation) (a b c : ℕ) (k : Checked) → Stays m (allowed i m o a b c k)
-allowed-stays i m o a b c clear = performed-stays i m o a b c
-allowed-stays i m o a b c (fails r) = λ e. refl
+allowed-stays i m o a b c Passes = performed-stays i m o a b c
+allowed-stays i m o a b c (Refuses r) = λ e. refl
 
 as-stays : (i : Inputs) (m : Machine) (a b c : ℕ) (k : Built) → Stays m (obeyedAs i m a b c k)
 as-stays i m a b c No = λ e. refl
@@ -90,7 +92,7 @@ as-stays i m a b c (As o k) = allowed-stays i m o a b c (checked k (m .cells) a 
 pub obeyed-stays : (i : Inputs) (m : Machine) (w : ℕ) → Stays m (obeyed i m w)
 unfolding obeyed
 obeyed-stays i m w =
-    as-stays i m (addressIn worthA w) (addressIn worthB w) (addressIn worthC w) (lookup (codeDone (m .state) w) codes)
+    as-stays i m (aIn w) (bIn w) (cIn w) (lookup (codeDone (m .state) w) codes)
 
 abbrev Leaves : Machine → Answer → Type 0
 Leaves m x = triesAgain (x .outcome) ≡ true → Left m (x .machine)

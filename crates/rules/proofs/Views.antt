@@ -3,13 +3,13 @@ use Prim.Native.Nat.{ℕ, zero, suc, _≤_, _<_}
 use mathlib.Core.Path.{_≡_, refl, sym, ap, _∙_}
 use mathlib.Core.List.{List, [], _∷_}
 use mathlib.Core.Bool.{Bool, true, false}
-use native.Mathlib.Nat.{suc-inj}
+use native.Mathlib.Nat.{suc-inj, not-suc-le-zero, le-of-suc-le-suc}
 use native.Mathlib.Omega.{arith}
 use lib.Dec.{eqb, leb}
 use lib.ListN.{length, getD, set}
 use borrow.Author.Tests.{leb-true, eqb-true}
 use Rattle.rules.specs.Words.{both}
-use Rattle.rules.specs.Drum.{cellOf, view, store, markOf, marksOf, numberOver, overlay, marksFit, wordsFit, drumFits}
+use Rattle.rules.specs.Drum.{cellOf, view, cellAt, store, markOf, marksOf, numberOver, overlay, marksFit, wordsFit, drumFits}
 use Rattle.rules.specs.declared.Cell.{Cell}
 use Rattle.rules.specs.declared.Cell.the-variants.{Foreign, Owned}
 
@@ -104,3 +104,43 @@ overlay-kept [] v i e = refl
 overlay-kept (d ∷ ds) [] i e = refl
 overlay-kept (d ∷ ds) (c ∷ v) zero e = number-kept c d e
 overlay-kept (d ∷ ds) (c ∷ v) (suc i) e = overlay-kept ds v i e
+
+-- ---- what code that has the lent drum and marks needs to know
+
+pub length-view : (ds ms : List ℕ) → length ds ≡ length ms → length (view ds ms) ≡ length ds
+unfolding view
+length-view [] ms e = refl
+length-view (d ∷ ds) [] e = sym e
+length-view (d ∷ ds) (m ∷ ms) e = ap suc (length-view ds ms (suc-inj e))
+
+pub length-marks : (v : List Cell) → length (marksOf v) ≡ length v
+unfolding marksOf
+length-marks [] = refl
+length-marks (c ∷ v) = ap suc (length-marks v)
+
+cell-again : (c : Cell) (d : ℕ) → cellOf (markOf c) (numberOver c d) ≡ c
+cell-again Foreign d = refl
+cell-again (Owned w) d = refl
+
+-- the cell at an address, by its mark and its number
+pub seen-at : (ds : List ℕ) (v : List Cell) (a : ℕ) → a < length ds → a < length v
+    → cellOf (getD (marksOf v) a 0) (getD (overlay ds v) a 0) ≡ cellAt v a
+unfolding marksOf overlay
+seen-at ds [] a h k = absurd (not-suc-le-zero k)
+seen-at [] (c ∷ v) a h k = absurd (not-suc-le-zero h)
+seen-at (d ∷ ds) (c ∷ v) zero h k = cell-again c d
+seen-at (d ∷ ds) (c ∷ v) (suc a) h k = seen-at ds v a (le-of-suc-le-suc h) (le-of-suc-le-suc k)
+
+-- a store
+pub marks-store : (v : List Cell) (a w : ℕ) → set (marksOf v) a 1 ≡ marksOf (store v a w)
+unfolding marksOf
+marks-store [] a w = refl
+marks-store (c ∷ v) zero w = refl
+marks-store (c ∷ v) (suc a) w = ap (λ (l : List ℕ). markOf c ∷ l) (marks-store v a w)
+
+pub overlay-store : (ds : List ℕ) (v : List Cell) (a w : ℕ) → a < length v → set (overlay ds v) a w ≡ overlay ds (store v a w)
+unfolding overlay
+overlay-store ds [] a w h = absurd (not-suc-le-zero h)
+overlay-store [] (c ∷ v) a w h = refl
+overlay-store (d ∷ ds) (c ∷ v) zero w h = refl
+overlay-store (d ∷ ds) (c ∷ v) (suc a) w h = ap (λ (l : List ℕ). numberOver c d ∷ l) (overlay-store ds v a w (le-of-suc-le-suc h))

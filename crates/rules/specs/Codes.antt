@@ -4,7 +4,7 @@ use Prim.Native.Nat.{ℕ, zero, suc, _+_, _-_, _*_}
 use mathlib.Core.List.{List, [], _∷_}
 use mathlib.Core.Bool.{Bool, true, false}
 use lib.Dec.{eqb, leb, ltb}
-use Rattle.rules.specs.Words.{pick, both, addressIn, firstDigit, worthA, worthB, worthC, isNumber}
+use Rattle.rules.specs.Words.{pick, both, aIn, firstDigit, isNumber}
 use Rattle.rules.specs.Drum.{cellAt, isOwned, wordAt}
 use Rattle.rules.specs.declared.Cell.{Cell}
 use Rattle.rules.specs.declared.Refusal.{Refusal}
@@ -13,10 +13,13 @@ use Rattle.rules.specs.declared.Operation.{Operation}
 use Rattle.rules.specs.declared.Operation.the-variants.{Reckon, Move, Go, Loop, Change, Read, Pch, Trace}
 use Rattle.rules.specs.declared.Reckoning.the-variants.{Add, Sub, Mpy, Div, Ngmpy, Sqrt, Abs}
 use Rattle.rules.specs.declared.Going.the-variants.{UncStop, CondStop, TrSgn, TrExp, Tr, TrSubr, Noop}
+use Rattle.rules.specs.declared.Address.the-variants.{OfA, OfB, OfC}
 use Rattle.rules.specs.declared.Changing.the-variants.{SetTo, AddTo, SubFrom}
 use Rattle.rules.specs.declared.Tracing.the-variants.{StartTr, StopTr, StTrEras}
 use Rattle.rules.specs.declared.Class.{Class}
 use Rattle.rules.specs.declared.Class.the-variants.{Free, TwoNumbers, OneNumber, OneWord, Changed, Linked, BlockOut, BlockIn}
+use Rattle.rules.specs.declared.Checked.{Checked}
+use Rattle.rules.specs.declared.Checked.the-variants.{Passes, Refuses}
 use Rattle.rules.specs.declared.Built.{Built}
 use Rattle.rules.specs.declared.Built.the-variants.{As, No}
 
@@ -49,22 +52,22 @@ codes =
     row 202 (Go TrExp) Free ∷
     row 203 (Go Tr) Free ∷
     row 204 (Go TrSubr) Linked ∷
-    row 100 (Loop 1 0 0) Free ∷
-    row 010 (Loop 0 1 0) Free ∷
-    row 001 (Loop 0 0 1) Free ∷
-    row 110 (Loop 1 1 0) Free ∷
-    row 101 (Loop 1 0 1) Free ∷
-    row 011 (Loop 0 1 1) Free ∷
-    row 111 (Loop 1 1 1) Free ∷
-    row 500 (Change SetTo worthA) Changed ∷
-    row 050 (Change SetTo worthB) Changed ∷
-    row 005 (Change SetTo worthC) Changed ∷
-    row 600 (Change AddTo worthA) Changed ∷
-    row 060 (Change AddTo worthB) Changed ∷
-    row 006 (Change AddTo worthC) Changed ∷
-    row 700 (Change SubFrom worthA) Changed ∷
-    row 070 (Change SubFrom worthB) Changed ∷
-    row 007 (Change SubFrom worthC) Changed ∷
+    row 100 (Loop true false false) Free ∷
+    row 010 (Loop false true false) Free ∷
+    row 001 (Loop false false true) Free ∷
+    row 110 (Loop true true false) Free ∷
+    row 101 (Loop true false true) Free ∷
+    row 011 (Loop false true true) Free ∷
+    row 111 (Loop true true true) Free ∷
+    row 500 (Change SetTo OfA) Changed ∷
+    row 050 (Change SetTo OfB) Changed ∷
+    row 005 (Change SetTo OfC) Changed ∷
+    row 600 (Change AddTo OfA) Changed ∷
+    row 060 (Change AddTo OfB) Changed ∷
+    row 006 (Change AddTo OfC) Changed ∷
+    row 700 (Change SubFrom OfA) Changed ∷
+    row 070 (Change SubFrom OfB) Changed ∷
+    row 007 (Change SubFrom OfC) Changed ∷
     row 300 (Reckon Sqrt) OneNumber ∷
     row 350 (Reckon Abs) OneNumber ∷
     row 400 Read BlockIn ∷
@@ -83,33 +86,28 @@ lookup k (r ∷ rs) = pick (eqb k (r .code)) (As (r .operation) (r .class)) (loo
 unfoldable pub codeIn : ℕ → ℕ
 codeIn w =
     pick (both (leb 1 (firstDigit w)) (leb (firstDigit w) 8)) (1000 * firstDigit w)
-    (1000 * firstDigit w + addressIn worthA w)
+    (1000 * firstDigit w + aIn w)
 
 -- ---- the checks that go by the class
 
--- what a check found: nothing, or a refusal
-pub data Checked : Type 0 where
-  clear : Checked
-  fails : Refusal → Checked
-
 -- the second check only where the first found nothing
 abbrev pub andThen : Checked → Checked → Checked
-andThen clear y = y
-andThen (fails r) y = fails r
+andThen Passes y = y
+andThen (Refuses r) y = Refuses r
 
 abbrev pub unless : Bool → Refusal → Checked
-unless true r = clear
-unless false r = fails r
+unless true r = Passes
+unless false r = Refuses r
 
 -- 20: a block's B is not 000 nor above C; the cell that an order changes is not 000
 abbrev pub blockFits : ℕ → ℕ → Bool
 blockFits b c = both (leb 1 b) (leb b c)
 
 abbrev pub addressCheck : Class → ℕ → ℕ → Checked
-addressCheck Free b c = clear
-addressCheck TwoNumbers b c = clear
-addressCheck OneNumber b c = clear
-addressCheck OneWord b c = clear
+addressCheck Free b c = Passes
+addressCheck TwoNumbers b c = Passes
+addressCheck OneNumber b c = Passes
+addressCheck OneWord b c = Passes
 addressCheck Changed b c = unless (leb 1 b) BadAddress
 addressCheck Linked b c = unless (leb 1 c) BadAddress
 addressCheck BlockOut b c = unless (blockFits b c) BadAddress
@@ -124,25 +122,25 @@ ownedFrom v b zero = true
 ownedFrom v b (suc n) = both (ownedFrom v b n) (ownedAt v (b + n))
 
 abbrev pub markCheck : Class → List Cell → ℕ → ℕ → ℕ → Checked
-markCheck Free v a b c = clear
+markCheck Free v a b c = Passes
 markCheck TwoNumbers v a b c = andThen (unless (ownedAt v a) Unmarked) (unless (ownedAt v b) Unmarked)
 markCheck OneNumber v a b c = unless (ownedAt v b) Unmarked
 markCheck OneWord v a b c = unless (ownedAt v b) Unmarked
 markCheck Changed v a b c = unless (ownedAt v b) Unmarked
 markCheck Linked v a b c = unless (ownedAt v c) Unmarked
 markCheck BlockOut v a b c = unless (ownedFrom v b (c + 1 - b)) Unmarked
-markCheck BlockIn v a b c = clear
+markCheck BlockIn v a b c = Passes
 
 -- 24: each operand is a number
 abbrev pub numberCheck : Class → List Cell → ℕ → ℕ → Checked
-numberCheck Free v a b = clear
+numberCheck Free v a b = Passes
 numberCheck TwoNumbers v a b = andThen (unless (isNumber (wordAt v a)) NotNumber) (unless (isNumber (wordAt v b)) NotNumber)
 numberCheck OneNumber v a b = unless (isNumber (wordAt v b)) NotNumber
-numberCheck OneWord v a b = clear
-numberCheck Changed v a b = clear
-numberCheck Linked v a b = clear
-numberCheck BlockOut v a b = clear
-numberCheck BlockIn v a b = clear
+numberCheck OneWord v a b = Passes
+numberCheck Changed v a b = Passes
+numberCheck Linked v a b = Passes
+numberCheck BlockOut v a b = Passes
+numberCheck BlockIn v a b = Passes
 
 -- the three in their order
 unfoldable pub checked : Class → List Cell → ℕ → ℕ → ℕ → Checked

@@ -5,7 +5,7 @@ use mathlib.Core.List.{List, [], _∷_, _++_}
 use mathlib.Core.Bool.{Bool, true, false}
 use lib.Dec.{eqb, leb, ltb}
 use lib.ListN.{length}
-use Rattle.rules.specs.Words.{pick, both, signIn, digitsIn, exponentIn, addressIn, withAddress, worthC}
+use Rattle.rules.specs.Words.{pick, both, signIn, digitsIn, exponentIn, addressIn, withAddress}
 use Rattle.rules.specs.Arithmetic.{addOf, subOf, mpyOf, divOf, ngmpyOf, sqrtOf, absOf}
 use Rattle.rules.specs.Drum.{cellAt, wordAt}
 use Rattle.rules.specs.Cards.{dataCard}
@@ -25,6 +25,8 @@ use Rattle.rules.specs.declared.Reckoning.{Reckoning}
 use Rattle.rules.specs.declared.Reckoning.the-variants.{Add, Sub, Mpy, Div, Ngmpy, Sqrt, Abs}
 use Rattle.rules.specs.declared.Going.{Going}
 use Rattle.rules.specs.declared.Going.the-variants.{UncStop, CondStop, TrSgn, TrExp, Tr, TrSubr, Noop}
+use Rattle.rules.specs.declared.Address.{Address}
+use Rattle.rules.specs.declared.Address.the-variants.{OfC}
 use Rattle.rules.specs.declared.Changing.{Changing}
 use Rattle.rules.specs.declared.Changing.the-variants.{SetTo, AddTo, SubFrom}
 use Rattle.rules.specs.declared.Tracing.{Tracing}
@@ -64,11 +66,11 @@ abbrev pub signTransferred : Machine → ℕ → ℕ → Machine
 signTransferred m b c = goingTo m (pick (isNegative (wordAt (m .cells) 0)) c b)
 
 abbrev pub exponentTransferred : Machine → ℕ → ℕ → Machine
-exponentTransferred m b c = pick (leb b (exponentIn (wordAt (m .cells) 0))) (goingTo m c) (onward m)
+exponentTransferred m b c = goingTo m (pick (leb b (exponentIn (wordAt (m .cells) 0))) c (m .state .location + 1))
 
 -- the order at C gets B as its C-address and a plus sign; go to C
 abbrev pub linked : Machine → ℕ → ℕ → Machine
-linked m b c = goingTo (stored m c (withAddress worthC (digitsIn (wordAt (m .cells) c)) b)) c
+linked m b c = goingTo (stored m c (withAddress OfC (digitsIn (wordAt (m .cells) c)) b)) c
 
 unfoldable pub gone : Inputs → Machine → Going → ℕ → ℕ → Answer
 gone i m UncStop b c = stops (Stopped (wordAt (m .cells) b)) m
@@ -82,14 +84,22 @@ gone i m Noop b c = done (onward m)
 -- ---- loops
 
 -- the box with the named counts raised by one
-abbrev pub raised : State → ℕ → ℕ → ℕ → List ℕ
-raised s x y z = (countA s + x) ∷ (countB s + y) ∷ (countC s + z) ∷ []
+abbrev pub raise : Bool → ℕ → ℕ
+raise true n = n + 1
+raise false n = n
+
+abbrev pub raised : State → Bool → Bool → Bool → List ℕ
+raised s x y z = raise x (countA s) ∷ raise y (countB s) ∷ raise z (countC s) ∷ []
 
 -- the largest of the named counts, once raised; a count that is not named is taken for 0
-abbrev pub largest : State → ℕ → ℕ → ℕ → ℕ
-largest s x y z = max (x * (countA s + x)) (max (y * (countB s + y)) (z * (countC s + z)))
+abbrev pub named : Bool → ℕ → ℕ
+named true n = n + 1
+named false n = 0
 
-abbrev pub looped : Machine → ℕ → ℕ → ℕ → ℕ → ℕ → Machine
+abbrev pub largest : State → Bool → Bool → Bool → ℕ
+largest s x y z = max (named x (countA s)) (max (named y (countB s)) (named z (countC s)))
+
+abbrev pub looped : Machine → Bool → Bool → Bool → ℕ → ℕ → Machine
 looped m x y z b c =
     pick (ltb (largest (m .state) x y z) b) (goingTo (withState m (counting (m .state) (raised (m .state) x y z))) c)
     (onward (withState m (counting (m .state) clearBox)))
@@ -102,11 +112,11 @@ newAddress SetTo x c = c
 newAddress AddTo x c = (x + c) % 1000
 newAddress SubFrom x c = (x + 1000 - c) % 1000
 
-abbrev pub changedWord : Changing → ℕ → ℕ → ℕ → ℕ
-changedWord k worth w c = withAddress worth w (newAddress k (addressIn worth w) c)
+abbrev pub changedWord : Changing → Address → ℕ → ℕ → ℕ
+changedWord k x w c = withAddress x w (newAddress k (addressIn x w) c)
 
-abbrev pub changed : Machine → Changing → ℕ → ℕ → ℕ → Machine
-changed m k worth b c = onward (stored m b (changedWord k worth (wordAt (m .cells) b) c))
+abbrev pub changed : Machine → Changing → Address → ℕ → ℕ → Machine
+changed m k x b c = onward (stored m b (changedWord k x (wordAt (m .cells) b) c))
 
 -- ---- PCH: cells B to C, five a card, the last card the rest
 
@@ -174,7 +184,7 @@ performed i m (Reckon r) a b c = reckoned m c (reckonedBy r (wordAt (m .cells) a
 performed i m Move a b c = done (onward (resultAt m c (wordAt (m .cells) b)))
 performed i m (Go g) a b c = gone i m g b c
 performed i m (Loop x y z) a b c = done (looped m x y z b c)
-performed i m (Change k worth) a b c = done (changed m k worth b c)
+performed i m (Change k x) a b c = done (changed m k x b c)
 performed i m Read a b c = read i m (judgedFrom 1000 (i .deck) (m .state .reader) b c)
 performed i m Pch a b c = punched i m b (c + 1 - b)
 performed i m (Trace t) a b c = done (retraced m t)

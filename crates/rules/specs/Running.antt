@@ -7,18 +7,21 @@ use mathlib.Core.List.{List, [], _∷_, _++_}
 use mathlib.Core.Bool.{Bool, true, false}
 use lib.Dec.{eqb, leb, ltb}
 use lib.ListN.{length, drop}
-use Rattle.rules.specs.Words.{pick, both, either, signIn, addressIn, firstDigit, worthA, worthB, worthC}
+use Rattle.rules.specs.Words.{pick, both, either, signIn, firstDigit, aIn, bIn, cIn, worthOf}
 use Rattle.rules.specs.Numbers.{completed, mayGoOn}
 use Rattle.rules.specs.Drum.{view, cellAt, wordAt, isOwned, marksOf, overlay, drumFits}
 use Rattle.rules.specs.Cards.{traceCard}
 use Rattle.rules.specs.Decks.{deckOf, startsAt}
-use Rattle.rules.specs.Codes.{codes, lookup, codeIn, pchCode, noopCode, Checked, clear, fails, checked}
+use Rattle.rules.specs.Codes.{codes, lookup, codeIn, pchCode, noopCode, checked}
 use Rattle.rules.specs.Machine.{Machine, Inputs, Answer, countA, countB, countC, numbered, isTraced, isTracing, withState, sending, undone}
 use Rattle.rules.specs.Orders.{performed}
+use Rattle.rules.specs.declared.Address.the-variants.{OfA, OfB, OfC}
 use Rattle.rules.specs.declared.Cell.{Cell}
 use Rattle.rules.specs.declared.Cell.the-variants.{Foreign, Owned}
 use Rattle.rules.specs.declared.State.{State}
 use Rattle.rules.specs.declared.Operation.{Operation}
+use Rattle.rules.specs.declared.Checked.{Checked}
+use Rattle.rules.specs.declared.Checked.the-variants.{Passes, Refuses}
 use Rattle.rules.specs.declared.Built.{Built}
 use Rattle.rules.specs.declared.Built.the-variants.{As, No}
 use Rattle.rules.specs.declared.Refusal.the-variants.{BadAddress, Unmarked, NoRoom, NotBuilt}
@@ -38,14 +41,14 @@ isMinus w = eqb (signIn w) 1
 
 abbrev pub sumsFit : State → ℕ → Bool
 sumsFit s w =
-    both (leb (addressIn worthA w + countA s) 999)
-    (both (leb (addressIn worthB w + countB s) 999) (leb (addressIn worthC w + countC s) 999))
+    both (leb (aIn w + countA s) 999)
+    (both (leb (bIn w + countB s) 999) (leb (cIn w + countC s) 999))
 
 abbrev pub orderFits : State → ℕ → Bool
 orderFits s w = pick (isMinus w) (sumsFit s w) true
 
 abbrev pub boxWord : State → ℕ
-boxWord s = countA s * worthA + countB s * worthB + countC s * worthC
+boxWord s = countA s * worthOf OfA + countB s * worthOf OfB + countC s * worthOf OfC
 
 abbrev pub asDone : State → ℕ → ℕ
 asDone s w = pick (isMinus w) (w + boxWord s) w
@@ -53,8 +56,8 @@ asDone s w = pick (isMinus w) (w + boxWord s) w
 -- ---- the order itself: built or not, then the checks of its class, then what it does
 
 abbrev pub allowed : Inputs → Machine → Operation → ℕ → ℕ → ℕ → Checked → Answer
-allowed i m o a b c clear = performed i m o a b c
-allowed i m o a b c (fails r) = undone r m
+allowed i m o a b c Passes = performed i m o a b c
+allowed i m o a b c (Refuses r) = undone r m
 
 abbrev pub obeyedAs : Inputs → Machine → ℕ → ℕ → ℕ → Built → Answer
 obeyedAs i m a b c No = undone NotBuilt m
@@ -66,16 +69,16 @@ codeDone s w = pick (both (isTraced s) (eqb (codeIn w) pchCode)) noopCode (codeI
 
 unfoldable pub obeyed : Inputs → Machine → ℕ → Answer
 obeyed i m w =
-    obeyedAs i m (addressIn worthA w) (addressIn worthB w) (addressIn worthC w) (lookup (codeDone (m .state) w) codes)
+    obeyedAs i m (aIn w) (bIn w) (cIn w) (lookup (codeDone (m .state) w) codes)
 
 -- ---- the trace card: order as stored, as done, the loop box, A's word, B's word, cell 000's
 
 abbrev pub wordOfA : List Cell → ℕ → ℕ
-wordOfA v w = pick (both (ltb 0 (firstDigit w)) (ltb 0 (addressIn worthA w))) (wordAt v (addressIn worthA w)) 0
+wordOfA v w = pick (both (ltb 0 (firstDigit w)) (ltb 0 (aIn w))) (wordAt v (aIn w)) 0
 
 abbrev pub traceWords : Machine → ℕ → ℕ → List ℕ
 traceWords m w w′ =
-    w ∷ w′ ∷ boxWord (m .state) ∷ wordOfA (m .cells) w′ ∷ wordAt (m .cells) (addressIn worthB w′) ∷ wordAt (m .cells) 0 ∷ []
+    w ∷ w′ ∷ boxWord (m .state) ∷ wordOfA (m .cells) w′ ∷ wordAt (m .cells) (bIn w′) ∷ wordAt (m .cells) 0 ∷ []
 
 -- the counter rises before it as before a punched card
 abbrev pub traceSent : Machine → ℕ → ℕ → Machine

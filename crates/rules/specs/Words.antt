@@ -3,6 +3,8 @@
 use Prim.Native.Nat.{ℕ, _+_, _-_, _*_, _/_, _%_}
 use mathlib.Core.Bool.{Bool, true, false}
 use lib.Dec.{eqb, leb, ltb}
+use Rattle.rules.specs.declared.Address.{Address}
+use Rattle.rules.specs.declared.Address.the-variants.{OfA, OfB, OfC}
 
 -- a choice by a test, and two tests together
 abbrev pub pick : {A : Type 0} → Bool → A → A → A
@@ -39,22 +41,27 @@ exponentIn w = w % 100
 unfoldable pub isNumber : ℕ → Bool
 isNumber w = either (eqb w 0) (both (isWord w) (leb 10000000 (leadingIn w)))
 
--- An order: sign, one digit, and three addresses of three digits. An address is named by what one unit of it is worth in the word.
-abbrev pub worthA : ℕ
-worthA = 1000000
+-- An order: sign, one digit, and three addresses of three digits, each with what one unit of it is worth in the word.
+abbrev pub worthOf : Address → ℕ
+worthOf OfA = 1000000
+worthOf OfB = 1000
+worthOf OfC = 1
 
-abbrev pub worthB : ℕ
-worthB = 1000
-
-abbrev pub worthC : ℕ
-worthC = 1
-
-abbrev pub addressIn : ℕ → ℕ → ℕ
-addressIn worth w = digitsIn w / worth % 1000
+abbrev pub addressIn : Address → ℕ → ℕ
+addressIn k w = digitsIn w / worthOf k % 1000
 
 abbrev pub firstDigit : ℕ → ℕ
 firstDigit w = digitsIn w / 1000000000
 
--- the word w with the address of that worth replaced
-abbrev pub withAddress : ℕ → ℕ → ℕ → ℕ
-withAddress worth w a = w - addressIn worth w * worth + a * worth
+abbrev pub aIn : ℕ → ℕ
+aIn w = addressIn OfA w
+
+abbrev pub bIn : ℕ → ℕ
+bIn w = addressIn OfB w
+
+abbrev pub cIn : ℕ → ℕ
+cIn w = addressIn OfC w
+
+-- the word w with a for that address
+abbrev pub withAddress : Address → ℕ → ℕ → ℕ
+withAddress k w a = w - addressIn k w * worthOf k + a * worthOf k

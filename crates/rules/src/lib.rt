@@ -88,6 +88,13 @@ pub enum Going {
     Noop,
 }
 
+// The three addresses of an order.
+pub enum Address {
+    OfA,
+    OfB,
+    OfC,
+}
+
 // Changes of one address of the word at B.
 pub enum Changing {
     SetTo,
@@ -102,14 +109,13 @@ pub enum Tracing {
     StTrEras,
 }
 
-// The built operations, by family. A loop names the counts that it raises (1 for a count that is named, 0 for one that is not), in the
-// order A, B, C; an address change names its address by what one unit of it is worth in the word.
+// The built operations, by family. A loop says of the counts A, B and C whether it raises them.
 pub enum Operation {
     Reckon(Reckoning),
     Move,
     Go(Going),
-    Loop(u64, u64, u64),
-    Change(Changing, u64),
+    Loop(bool, bool, bool),
+    Change(Changing, Address),
     Read,
     Pch,
     Trace(Tracing),
@@ -131,6 +137,12 @@ pub enum Class {
 pub enum Built {
     As(Operation, Class),
     No,
+}
+
+// What the checks that go by the class found.
+pub enum Checked {
+    Passes,
+    Refuses(Refusal),
 }
 
 // The machine state. Mode is 0 for plain and 1 for traced, tracing is 1 while it is on.

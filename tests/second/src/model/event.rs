@@ -31,7 +31,8 @@ pub enum Event {
     /// Told only of lines that hold alone, when several of one number could hold at once.
     RunRefused(Reason),
     RunRefusedForSeveral,
-    Completed { code: Code, way: Way, stopped: bool, tracing: Tracing },
+    /// `modified`: the loop box made the order as done another than the order as stored.
+    Completed { code: Code, way: Way, stopped: bool, tracing: Tracing, modified: bool },
     /// Before the code was looked at, or with a code that is not built.
     Refused { reason: Reason, tracing: Tracing },
     OrderRefused { code: Code, reason: Reason, tracing: Tracing },

@@ -3,7 +3,7 @@
 use super::deck::Deck;
 use super::drum::Drum;
 use super::event::{Event, Tracing, Way};
-use super::order::{code, Order};
+use super::order::{code, Code, Order};
 use super::orders::{plan, Effects, View};
 use super::state::State;
 use super::stop::Reason;
@@ -28,9 +28,8 @@ impl Machine<'_> {
     /// refused order only its trace card and that card's number remain.
     pub fn step(&mut self) -> Result<Stop, Reason> {
         let tracing = self.tracing();
-        let made = self.order_as_done().and_then(|(stored, done)| self.trace(stored, done));
-        let (code, order) = match made.and_then(|done| Ok((code(done).ok_or(Reason::NotBuilt)?, done))) {
-            Ok(built) => built,
+        let (stored, order, code) = match self.fetch() {
+            Ok(fetched) => fetched,
             Err(reason) => {
                 (self.witness)(Event::Refused { reason, tracing });
                 return Err(reason);
@@ -46,8 +45,9 @@ impl Machine<'_> {
         match plan(code, order, &view) {
             Ok(effects) => {
                 let (way, stop) = (effects.way, effects.stop);
+                let modified = order.word() != stored;
                 self.apply(order, effects);
-                (self.witness)(Event::Completed { code, way, stopped: stop.is_some(), tracing });
+                (self.witness)(Event::Completed { code, way, stopped: stop.is_some(), tracing, modified });
                 Ok(stop)
             }
             Err(reason) => {
@@ -65,6 +65,16 @@ impl Machine<'_> {
         }
     }
 
+    /// All that comes before the code's own checks, the trace card included.
+    fn fetch(&mut self) -> Result<(Word, Order, Code), Reason> {
+        let (stored, done) = self.order_as_done()?;
+        if self.state.tracing_is_on() {
+            self.trace(stored, done)?;
+        }
+        let code = code(done).ok_or(Reason::NotBuilt)?;
+        Ok((stored, done, code))
+    }
+
     /// The location, the order's own cell, then the sums with the loop box.
     fn order_as_done(&self) -> Result<(Word, Order), Reason> {
         match self.state.location {
@@ -77,11 +87,8 @@ impl Machine<'_> {
         Ok((stored, done))
     }
 
-    /// Writes the trace card if tracing is on.
-    fn trace(&mut self, stored: Word, done: Order) -> Result<Order, Reason> {
-        if !self.state.tracing_is_on() {
-            return Ok(done);
-        }
+    /// Writes the trace card.
+    fn trace(&mut self, stored: Word, done: Order) -> Result<(), Reason> {
         let counted = State { counter: next_counter(self.state.counter), ..self.state };
         let card = trace_card(stored, done, &counted, &self.drum);
         if card.len() > self.out.len() - self.written {
@@ -89,7 +96,7 @@ impl Machine<'_> {
         }
         self.state = counted;
         self.write(&card);
-        Ok(done)
+        Ok(())
     }
 
     fn apply(&mut self, order: Order, effects: Effects) {

@@ -13,6 +13,13 @@ pub enum Field {
 
 pub const FIELDS: [Field; 3] = [Field::A, Field::B, Field::C];
 
+/// Which card of a READ failed: the first it asked for, or one behind cards that fitted.
+#[derive(Clone, Copy, Debug, PartialEq, Eq, PartialOrd, Ord)]
+pub enum Turn {
+    First,
+    Later,
+}
+
 /// One line, or part of a line, of the table of stop numbers.
 #[derive(Clone, Copy, Debug, PartialEq, Eq, PartialOrd, Ord)]
 pub enum Reason {
@@ -52,9 +59,9 @@ pub enum Reason {
     ZeroDivisor,
     NegativeRoot,
     Range(OutOfRange),
-    CardElsewhere,
-    CardPastBlock,
-    NoCard,
+    CardElsewhere(Turn),
+    CardPastBlock(Turn),
+    NoCard(Turn),
 }
 
 impl Reason {
@@ -79,8 +86,8 @@ impl Reason {
             ZeroDivisor => 25,
             NegativeRoot => 26,
             Range(_) => 27,
-            CardElsewhere | CardPastBlock => 28,
-            NoCard => 29,
+            CardElsewhere(_) | CardPastBlock(_) => 28,
+            NoCard(_) => 29,
         }
     }
 }

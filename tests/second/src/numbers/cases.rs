@@ -61,7 +61,7 @@ fn drawn(chance: &mut Chance) -> u64 {
     unreachable!("the shares make a hundred")
 }
 
-fn operands(operation: u64, chance: &mut Chance) -> (u64, u64) {
+pub fn operands(operation: u64, chance: &mut Chance) -> (u64, u64) {
     match operation {
         SQRT => (root_operand(chance), 0),
         ABS => (any(chance), 0),

@@ -5,6 +5,7 @@ mod judge;
 mod operands;
 mod shapes;
 
+use crate::chance::Chance;
 use crate::files::{Reading, Writing};
 use crate::model::operation::{of_one, of_two, OfOne, OfTwo};
 use crate::model::stop::{Field, Reason};
@@ -12,6 +13,7 @@ use crate::model::word::Word;
 use cases::Case;
 
 pub use judge::judge;
+pub use operands::{any_number, stranger};
 
 /// The operations by their number in a case.
 const NAMES: [&str; 7] = ["add", "sub", "mpy", "div", "ngmpy", "sqrt", "abs"];
@@ -41,6 +43,21 @@ fn outcome(case: Case) -> Result<Word, Reason> {
 
 fn second(case: Case) -> Result<Word, Reason> {
     Word::of_cell(case.b).ok_or(Reason::NotNumber(Field::B))
+}
+
+/// Operands of the operation with this number whose outcome is a wanted one.
+pub fn operands_for(
+    operation: u64,
+    chance: &mut Chance,
+    wanted: impl Fn(Result<Word, Reason>) -> bool,
+) -> (Word, Word) {
+    loop {
+        let (a, b) = cases::operands(operation, chance);
+        let words = Word::of_cell(a).zip(Word::of_cell(b));
+        if let Some(words) = words.filter(|_| wanted(outcome(Case { operation, a, b }))) {
+            return words;
+        }
+    }
 }
 
 pub fn write(seed: u64, count: u64, path: &str) {

@@ -5,7 +5,7 @@ use crate::model::card::DataCard;
 use crate::model::event::Way;
 use crate::model::order::Order;
 use crate::model::state::State;
-use crate::model::stop::Reason;
+use crate::model::stop::{Reason, Turn};
 use crate::model::trace::next_counter;
 use crate::model::word::Word;
 
@@ -54,12 +54,13 @@ pub fn read(order: Order, view: &View) -> Result<Effects, Reason> {
     let mut reader = view.state.reader as usize;
     let mut stores = Vec::new();
     while next != order.c + 1 {
-        let (card, behind) = view.deck.card_at(reader).ok_or(Reason::NoCard)?;
+        let turn = if next == order.b { Turn::First } else { Turn::Later };
+        let (card, behind) = view.deck.card_at(reader).ok_or(Reason::NoCard(turn))?;
         if card.location != next {
-            return Err(Reason::CardElsewhere);
+            return Err(Reason::CardElsewhere(turn));
         }
         if next + card.words.len() as u64 > order.c + 1 {
-            return Err(Reason::CardPastBlock);
+            return Err(Reason::CardPastBlock(turn));
         }
         for &word in &card.words {
             stores.push((next, word));

@@ -1,0 +1,30 @@
+// Load and run on a lent drum, its marks, a deck and an output. Only these two are shown; each family of orders has a module of its own.
+mod going;
+mod memory;
+mod states;
+
+use rules::Ending;
+use rules::Loading;
+use rules::Outcome;
+use rules::State;
+
+// What an order came to: its outcome, the bytes written by then, the state after it.
+pub struct Stepped {
+    pub outcome: Outcome,
+    pub at: usize,
+    pub state: State,
+}
+
+// What a call of run came to.
+pub struct Ran {
+    pub ending: Ending,
+    pub count: u64,
+    pub written: usize,
+    pub state: State,
+}
+
+// What a call of load came to.
+pub struct Loaded {
+    pub loading: Loading,
+    pub state: State,
+}
