@@ -1,7 +1,7 @@
 -- What the lent runs show, said of plain lists: a cell read, a word stored, a card written, and an order that changes only the state.
 -- Assumes nothing.
 use Prim.Native.Nat.{ℕ, zero, suc, _+_, _≤_, _<_}
-use mathlib.Core.Path.{_≡_, refl, sym, ap, _∙_}
+use mathlib.Core.Path.{_≡_, refl, sym, ap, subst, _∙_}
 use mathlib.Core.List.{List, [], _∷_}
 use native.Mathlib.Omega.{arith}
 use lib.ListN.{length, getD, set, length-set}
@@ -14,7 +14,7 @@ use Rattle.rules.specs.declared.Refusal.{Refusal}
 use Rattle.rules.specs.declared.Outcome.{Outcome}
 use Rattle.rules.specs.declared.Outcome.the-variants.{GoesOn, Undone}
 use Rattle.rules.proofs.Views.{length-overlay, length-marks, seen-at, marks-store, overlay-store}
-use Rattle.machine.specs.Lent.{Words, Steady, Holds, Wrote, Shows, Did}
+use Rattle.machine.specs.Lent.{Words, Steady, Ready, Holds, Wrote, Shows, Did}
 use Rattle.machine.specs.declared.Stepped.{Stepped}
 
 -- ---- a cell by its mark and its number
@@ -48,6 +48,14 @@ module _ {drum₀ drum marks : List ℕ} {v : List Cell} (h : Holds drum₀ drum
   pub marks-long : length marks ≡ 1000
   marks-long = ap length (h .marks-are) ∙ length-marks v ∙ h .long
 
+  pub ready : Ready drum marks
+  ready =
+      record {
+        drum-long = drum-long;
+        marks-long = marks-long;
+        words = λ a k. subst (λ (x : Cell). shown x ≤ 19999999999) (sym (cell-is a k)) (h .words a);
+      }
+
   -- a store
   pub kept : (a w : ℕ) (d k : List ℕ) → a < 1000 → w ≤ 19999999999 → d ≡ set drum a w → k ≡ set marks a 1 → Holds drum₀ d k (store v a w)
   kept a w d k l g e f =
@@ -70,9 +78,14 @@ module _ {drum₀ out₀ drum marks out : List ℕ} {at : ℕ} {s : State} {m : 
   pub with-state : (t u : State) → t ≡ u → Steady (u .problem) (u .counts) → Shows drum₀ out₀ drum marks out at t (withState m u)
   with-state t u e k = record { memory = h .memory; output = h .output; state-is = e; steady = k }
 
-  pub went : (o : Outcome) (l : ℕ) (t : State) → t ≡ wentTo s l
-      → Did drum₀ out₀ drum marks out (record { outcome = o; at = at; state = t }) (stops o (goingTo m l))
-  went o l t e = record { outcome-is = refl; shows = with-state t (wentTo (m .state) l) (e ∙ ap (λ (x : State). wentTo x l) (h .state-is)) (h .steady) }
+  -- the next order is where f says, by the state
+  pub went : (o : Outcome) (f : State → ℕ) (t : State) → t ≡ wentTo s (f s)
+      → Did drum₀ out₀ drum marks out (record { outcome = o; at = at; state = t }) (stops o (goingTo m (f (m .state))))
+  went o f t e =
+      record {
+        outcome-is = refl;
+        shows = with-state t (wentTo (m .state) (f (m .state))) (e ∙ ap (λ (x : State). wentTo x (f x)) (h .state-is)) (h .steady);
+      }
 
   -- one word is stored
   pub with-word : (a w : ℕ) (d k : List ℕ) → a < 1000 → w ≤ 19999999999 → d ≡ set drum a w → k ≡ set marks a 1
@@ -82,3 +95,12 @@ module _ {drum₀ out₀ drum marks out : List ℕ} {at : ℕ} {s : State} {m : 
 
   pub location-is : m .state .location ≡ s .location
   location-is = ap (λ (x : State). x .location) (sym (h .state-is))
+
+module _ {drum₀ out₀ drum marks out : List ℕ} {at : ℕ} {s : State} {m : Machine} (h : Shows drum₀ out₀ drum marks out at s m) where
+  -- one word is stored, and the next order is where f says
+  pub stored-went : (f : State → ℕ) (a w w′ : ℕ) (d k : List ℕ) (t : State) → a < 1000 → w ≤ 19999999999 → w ≡ w′
+      → d ≡ set drum a w → k ≡ set marks a 1 → t ≡ wentTo s (f s)
+      → Did drum₀ out₀ d k out (record { outcome = GoesOn; at = at; state = t }) (done (goingTo (stored m a w′) (f (m .state))))
+  stored-went f a w w′ d k t l g q e i r =
+      subst (λ (x : ℕ). Did drum₀ out₀ d k out (record { outcome = GoesOn; at = at; state = t }) (done (goingTo (stored m a x) (f (m .state))))) q
+      (went (with-word h a w d k l g e i) GoesOn f t r)

@@ -1,12 +1,12 @@
 -- That the lent runs show a machine of the rules: the drum is the machine's cells laid over some old drum, the marks are the cells'
 -- marks, and the output is the bytes written over some old output. The contracts inside this crate are said through it, each for any
 -- old drum, any old output and any machine, so that they chain. Assumes nothing.
-use Prim.Native.Nat.{ℕ, _≤_}
+use Prim.Native.Nat.{ℕ, _≤_, _<_}
 use mathlib.Core.Path.{_≡_}
 use mathlib.Core.List.{List}
 use mathlib.Core.Bool.{Bool}
 use lib.ListN.{length, getD}
-use Rattle.rules.specs.Drum.{wordAt, marksOf, overlay}
+use Rattle.rules.specs.Drum.{cellOf, shown, wordAt, marksOf, overlay}
 use Rattle.rules.specs.Machine.{Machine, Inputs, Answer}
 use Rattle.rules.specs.Running.{over, Course, RunResult}
 use Rattle.rules.specs.Loads.{LoadResult}
@@ -26,6 +26,12 @@ pub record Steady (problem : ℕ) (counts : List ℕ) : Type 0 where
   pub a-fits : getD counts 0 0 ≤ 999
   pub b-fits : getD counts 1 0 ≤ 999
   pub c-fits : getD counts 2 0 ≤ 999
+
+-- what orders ask of the lent drum and marks: their lengths, and that a marked cell holds a word
+pub record Ready (drum marks : List ℕ) : Type 0 where
+  pub drum-long : length drum ≡ 1000
+  pub marks-long : length marks ≡ 1000
+  pub words : (a : ℕ) → a < 1000 → shown (cellOf (getD marks a 0) (getD drum a 0)) ≤ 19999999999
 
 -- the drum and the marks, by the cells
 pub record Holds (drum₀ drum marks : List ℕ) (v : List Cell) : Type 0 where

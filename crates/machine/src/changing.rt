@@ -1,13 +1,12 @@
 // Address changes: one address of the word at B.
 ghost use mathlib.Core.Path.{_≡_};
-ghost use mathlib.Core.List.{List};
 ghost use Prim.Native.Nat.{ℕ, _+_, _<_, _≤_};
-ghost use lib.ListN.{length};
 ghost use Rattle.rules.specs.Words.{withAddress, addressIn};
 ghost use Rattle.rules.specs.Orders.{newAddress, changedWord, changed};
 ghost use Rattle.rules.specs.Machine.{done};
-ghost use Rattle.machine.specs.Lent.{DoesQuietly};
+ghost use Rattle.machine.specs.Lent.{Ready, DoesQuietly};
 use crate::Stepped;
+use rules::Address;
 use rules::Changing;
 use rules::Outcome;
 use rules::State;
@@ -24,14 +23,27 @@ fn new_address(k: Changing, x: u64, c: u64) -> u64
     }
 }
 
-// The word w with that address changed, where one unit of the address is worth `worth`.
-fn changed_word(k: Changing, worth: u64, w: u64, c: u64) -> u64
-    requires { ⌜ (0 < worth) × (worth ≤ 1000000) × (w ≤ 19999999999) × (c < 1000) ⌝ }
-    ensures { λ r. ⌜ r ≡ changedWord k worth w c ⌝ }
+// One address of a word.
+fn address_in(x: Address, w: u64) -> u64
+    ensures { λ r. ⌜ (r ≡ addressIn x w) × (r < 1000) ⌝ }
 {
-    let x = w % 10_000_000_000 / worth % 1000;
-    let y = new_address(k, x, c);
-    w - x * worth + y * worth
+    match x {
+        Address::OfA => w % 10_000_000_000 / 1_000_000 % 1000,
+        Address::OfB => w % 10_000_000_000 / 1000 % 1000,
+        Address::OfC => w % 10_000_000_000 / 1 % 1000,
+    }
+}
+
+// The word w with a for one of its addresses.
+fn with_address(x: Address, w: u64, a: u64) -> u64
+    requires { ⌜ (w ≤ 19999999999) × (a < 1000) ⌝ }
+    ensures { λ r. ⌜ (r ≡ withAddress x w a) × (r ≤ 19999999999) ⌝ }
+{
+    match x {
+        Address::OfA => { w - w % 10_000_000_000 / 1_000_000 % 1000 * 1_000_000 + a * 1_000_000 }
+        Address::OfB => w - w % 10_000_000_000 / 1000 % 1000 * 1000 + a * 1000,
+        Address::OfC => w - w % 10_000_000_000 / 1 % 1000 * 1 + a * 1,
+    }
 }
 
 // The word at b is changed, and the next order is the one behind this.
@@ -41,17 +53,18 @@ pub fn change(
     at: usize,
     state: State,
     k: Changing,
-    worth: u64,
+    x: Address,
     b: usize,
     c: usize,
 ) -> Stepped
-    requires { ⌜ (length (now drum) ≡ 1000) × (length (now marks) ≡ 1000) × (b < 1000) × (c < 1000) × (state .location < 1000) ⌝ }
+    requires { ⌜ Ready (now drum) (now marks) × (b < 1000) × (c < 1000) × (state .location < 1000) ⌝ }
     ensures { λ r. ⌜ DoesQuietly (now (drum .entry)) (now (marks .entry)) at state (now (drum .exit)) (now (marks .exit)) r
-        (λ room m. done (changed m k worth b c)) ⌝ }
+        (λ room m. done (changed m k x b c)) ⌝ }
 {
     let w = crate::memory::word(drum, marks, b);
-    let x = changed_word(k, worth, w, c as u64);
-    crate::memory::keep(drum, marks, b, x);
+    let y = new_address(k, address_in(x, w), c as u64);
+    let z = with_address(x, w, y);
+    crate::memory::keep(drum, marks, b, z);
     let next = state.location + 1;
     let t = crate::states::went_to(state, next);
     Stepped {

@@ -3,11 +3,11 @@ ghost use mathlib.Core.Path.{_≡_};
 ghost use mathlib.Core.List.{List};
 ghost use Prim.Native.Nat.{ℕ, _+_, _<_, _≤_};
 ghost use lib.Dec.{leb};
-ghost use lib.ListN.{length};
-ghost use Rattle.rules.specs.Words.{pick, digitsIn, exponentIn, withAddress, worthC};
+ghost use Rattle.rules.specs.Words.{pick, digitsIn, exponentIn, withAddress};
+ghost use Rattle.rules.specs.declared.Address.the-variants.{OfC};
 ghost use Rattle.rules.specs.Orders.{isNegative, gone, linked};
 ghost use Rattle.rules.specs.Machine.{done};
-ghost use Rattle.machine.specs.Lent.{lent, DoesQuietly};
+ghost use Rattle.machine.specs.Lent.{Ready, lent, DoesQuietly};
 use crate::Stepped;
 use rules::Going;
 use rules::Outcome;
@@ -36,14 +36,14 @@ fn exponent_target(w: u64, b: usize, c: usize, next: usize) -> usize
 // TR SUBR: a word with plus, and b for its C-address.
 fn linked_word(w: u64, b: usize) -> u64
     requires { ⌜ b < 1000 ⌝ }
-    ensures { λ r. ⌜ (r ≡ withAddress worthC (digitsIn w) b) × (r ≤ 19999999999) ⌝ }
+    ensures { λ r. ⌜ (r ≡ withAddress OfC (digitsIn w) b) × (r ≤ 19999999999) ⌝ }
 {
     w % 10_000_000_000 / 1000 * 1000 + b as u64
 }
 
 // TR SUBR: the order at c is changed, and is the next.
 fn link(drum: &mut [u64], marks: &mut [u8], at: usize, state: State, b: usize, c: usize) -> Stepped
-    requires { ⌜ (length (now drum) ≡ 1000) × (length (now marks) ≡ 1000) × (b < 1000) × (c < 1000) ⌝ }
+    requires { ⌜ Ready (now drum) (now marks) × (b < 1000) × (c < 1000) ⌝ }
     ensures { λ r. ⌜ DoesQuietly (now (drum .entry)) (now (marks .entry)) at state (now (drum .exit)) (now (marks .exit)) r
         (λ room m. done (linked m b c)) ⌝ }
 {
@@ -69,7 +69,7 @@ pub fn go(
     b: usize,
     c: usize,
 ) -> Stepped
-    requires { ⌜ (length (now drum) ≡ 1000) × (length (now marks) ≡ 1000) × (b < 1000) × (c < 1000) × (state .location < 1000) ⌝ }
+    requires { ⌜ Ready (now drum) (now marks) × (b < 1000) × (c < 1000) × (state .location < 1000) ⌝ }
     ensures { λ r. ⌜ ((deck : List ℕ) →
         DoesQuietly (now (drum .entry)) (now (marks .entry)) at state (now (drum .exit)) (now (marks .exit)) r
         (λ room m. gone (lent deck stop room) m g b c)) ⌝ }

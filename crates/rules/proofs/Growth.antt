@@ -11,8 +11,8 @@ use Rattle.rules.specs.Drum.{cellAt, wordAt, store, marksOf}
 use Rattle.rules.specs.Cards.{wordIn, wordPlace}
 use Rattle.rules.specs.Decks.{cardAt, wordsStored, cardsStored, judgedFrom}
 use Rattle.rules.specs.Codes.{codes, lookup, checked}
-use Rattle.rules.specs.Machine.{Machine, Inputs, Answer, counting, clearBox, isTraced, isTracing, tracingSet, withState, stored, goingTo, onward, done, undone}
-use Rattle.rules.specs.Orders.{reckonedBy, reckoned, condStopped, gone, largest, raised, five, cardPunched, cardsPunched, punchSize, punched, read, tracingTo, erased, retraced, performed}
+use Rattle.rules.specs.Machine.{Machine, Inputs, Answer, counting, clearBox, isTracing, withState, goingTo, onward, done, undone}
+use Rattle.rules.specs.Orders.{reckonedBy, reckoned, condStopped, gone, largest, raised, five, cardPunched, cardsPunched, punchSize, punched, read, erased, retraced, performed}
 use Rattle.rules.specs.Running.{Course, allowed, obeyedAs, codeDone, obeyed, asDone, orderFits, traceSent, traceSize, traced, fetched, step, runFrom}
 use Rattle.rules.specs.declared.Cell.{Cell}
 use Rattle.rules.specs.declared.Cell.the-variants.{Foreign, Owned}
@@ -103,15 +103,10 @@ punched-grows i m b n =
     answer-grows (m .cells) (leb (length (m .sent) + punchSize n) (i .room)) (done (onward (cardsPunched n m b n))) (undone NoRoom m)
     (subst (λ (v : List Cell). Grows (m .cells) v) (sym (punched-cells n m b n)) (same (m .cells))) (same (m .cells))
 
-tracing-grows : (m : Machine) (t : ℕ) → Grows (m .cells) (tracingTo m t .cells)
-tracing-grows m t =
-    pick-grows (m .cells) (isTraced (m .state)) (withState m (tracingSet (m .state) t)) m (same (m .cells)) (same (m .cells))
-
 retraced-grows : (m : Machine) (t : Tracing) → Grows (m .cells) (retraced m t .cells)
-retraced-grows m StartTr = tracing-grows m 1
-retraced-grows m StopTr = tracing-grows m 0
-retraced-grows m StTrEras =
-    λ k e. store-grows (m .cells) (m .state .location) erased k (tracing-grows (stored m (m .state .location) erased) 1 k e)
+retraced-grows m StartTr = same (m .cells)
+retraced-grows m StopTr = same (m .cells)
+retraced-grows m StTrEras = store-grows (m .cells) (m .state .location) erased
 
 gone-grows : (i : Inputs) (m : Machine) (g : Going) (b c : ℕ) → Grows (m .cells) (gone i m g b c .machine .cells)
 unfolding gone

@@ -23,7 +23,7 @@ use Rattle.rules.specs.declared.Checked.the-variants.{Passes, Refuses}
 use Rattle.rules.specs.declared.Built.{Built}
 use Rattle.rules.specs.declared.Built.the-variants.{As, No}
 
--- A row of the table: a code, what it does, what its addresses are. O1 stands in the thousands; where O1 is 0 the rest is O2.
+-- A row of the table: a code, what it does, what its addresses are. Where O1 is 0 the code is O2; else O1 stands in the thousands.
 pub record Row : Type 0 where
   pub code : ℕ
   pub operation : Operation
@@ -82,11 +82,12 @@ unfoldable pub lookup : ℕ → List Row → Built
 lookup k [] = No
 lookup k (r ∷ rs) = pick (eqb k (r .code)) (As (r .operation) (r .class)) (lookup k rs)
 
--- The code of an order. Codes 1 to 8 have any A; 9 is built for A 000 alone.
+-- The code of an order. MOVE with A not 000 is a code of its own, 9001, which is not built.
+abbrev pub isBlockMove : ℕ → Bool
+isBlockMove w = both (eqb (firstDigit w) 9) (ltb 0 (aIn w))
+
 unfoldable pub codeIn : ℕ → ℕ
-codeIn w =
-    pick (both (leb 1 (firstDigit w)) (leb (firstDigit w) 8)) (1000 * firstDigit w)
-    (1000 * firstDigit w + aIn w)
+codeIn w = pick (eqb (firstDigit w) 0) (aIn w) (pick (isBlockMove w) 9001 (1000 * firstDigit w))
 
 -- ---- the checks that go by the class
 

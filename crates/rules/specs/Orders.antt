@@ -165,17 +165,17 @@ read i m (Fails r) = undone r m
 
 -- ---- tracing: turned on or off in traced mode, else nothing
 
-abbrev pub tracingTo : Machine → ℕ → Machine
-tracingTo m t = pick (isTraced (m .state)) (withState m (tracingSet (m .state) t)) m
+abbrev pub tracingTo : State → ℕ → State
+tracingTo s t = pick (isTraced s) (tracingSet s t) s
 
 -- the word that ST TR ERAS leaves in its own cell: 0 454 000 000
 abbrev pub erased : ℕ
 erased = 0454000000
 
 abbrev pub retraced : Machine → Tracing → Machine
-retraced m StartTr = onward (tracingTo m 1)
-retraced m StopTr = onward (tracingTo m 0)
-retraced m StTrEras = onward (tracingTo (stored m (m .state .location) erased) 1)
+retraced m StartTr = onward (withState m (tracingTo (m .state) 1))
+retraced m StopTr = onward (withState m (tracingTo (m .state) 0))
+retraced m StTrEras = onward (withState (stored m (m .state .location) erased) (tracingTo (m .state) 1))
 
 -- ---- all of them
 

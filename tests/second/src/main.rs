@@ -5,17 +5,23 @@ mod decks;
 mod files;
 mod model;
 mod numbers;
+mod self_test;
+mod sessions;
 mod verdict;
 
 use std::process::ExitCode;
 
 const USAGE: &str = "\
-usage: second numbers SEED COUNT FILE
-       second judge-numbers SEED COUNT ANSWERS
-       second answer-numbers FILE OUT
+usage: second numbers SEED COUNT FILE             write cases
        second decks SEED COUNT FILE
+       second sessions SEED COUNT FILE
+       second answer-numbers FILE OUT             answer cases with the model
+       second answer-decks FILE OUT
+       second answer-sessions FILE OUT
+       second judge-numbers SEED COUNT ANSWERS    compare answers with the model's
        second judge-decks SEED COUNT ANSWERS
-       second answer-decks FILE OUT";
+       second judge-sessions SEED COUNT ANSWERS
+       second self COUNT SEED                     all of these with the model alone";
 
 fn main() -> ExitCode {
     let arguments: Vec<String> = std::env::args().skip(1).collect();
@@ -33,38 +39,43 @@ fn main() -> ExitCode {
 /// Does what the arguments ask; whether all is well, or none for a call that is not understood.
 fn run(arguments: &[&str]) -> Option<bool> {
     match *arguments {
-        ["numbers", seed, count, file] => {
-            let (seed, count) = stream(seed, count)?;
-            println!("seed {seed}");
-            numbers::write(seed, count, file);
-            Some(true)
-        }
-        ["judge-numbers", seed, count, answers] => {
-            let (seed, count) = stream(seed, count)?;
-            Some(numbers::judge(seed, count, answers))
-        }
-        ["answer-numbers", file, out] => {
-            numbers::answer_all(file, out);
-            Some(true)
-        }
-        ["decks", seed, count, file] => {
-            let (seed, count) = stream(seed, count)?;
-            println!("seed {seed}");
-            decks::write(seed, count, file);
-            Some(true)
-        }
-        ["judge-decks", seed, count, answers] => {
-            let (seed, count) = stream(seed, count)?;
-            Some(decks::judge(seed, count, answers))
-        }
-        ["answer-decks", file, out] => {
-            decks::answer_all(file, out);
-            Some(true)
+        ["self", count, seed] => Some(self_test::all(count.parse().ok()?, seed.parse().ok()?)),
+        [command, cases, out] => answer(command, cases, out),
+        [command, seed, count, file] => {
+            let (seed, count) = (seed.parse().ok()?, count.parse().ok()?);
+            write(command, seed, count, file).or_else(|| judge(command, seed, count, file))
         }
         _ => None,
     }
 }
 
-fn stream(seed: &str, count: &str) -> Option<(u64, u64)> {
-    Some((seed.parse().ok()?, count.parse().ok()?))
+fn write(command: &str, seed: u64, count: u64, file: &str) -> Option<bool> {
+    match command {
+        "numbers" => numbers::write(seed, count, file),
+        "decks" => decks::write(seed, count, file),
+        "sessions" => sessions::write(seed, count, file),
+        _ => return None,
+    }
+    // Not on the standard output, which may be the file.
+    eprintln!("{command}: {count} cases written, seed {seed}");
+    Some(true)
+}
+
+fn answer(command: &str, cases: &str, out: &str) -> Option<bool> {
+    match command {
+        "answer-numbers" => numbers::answer_all(cases, out),
+        "answer-decks" => decks::answer_all(cases, out),
+        "answer-sessions" => sessions::answer_all(cases, out),
+        _ => return None,
+    }
+    Some(true)
+}
+
+fn judge(command: &str, seed: u64, count: u64, answers: &str) -> Option<bool> {
+    Some(match command {
+        "judge-numbers" => numbers::judge(seed, count, answers),
+        "judge-decks" => decks::judge(seed, count, answers),
+        "judge-sessions" => sessions::judge(seed, count, answers),
+        _ => return None,
+    })
 }

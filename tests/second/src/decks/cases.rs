@@ -79,17 +79,23 @@ fn drawn(chance: &mut Chance) -> Vec<u8> {
     if chance.one_in(200) {
         return long(chance);
     }
-    match chance.below(20) {
-        0..=3 => Cards::any(chance).bytes(),
-        4 | 5 => without_t(chance),
-        6 | 7 => with_second_t(chance),
-        8 | 9 => with_foreign_card(chance),
-        10..=12 => with_bad_location(chance),
-        13 => with_first_order_000(chance),
-        14 => garbage(chance),
-        15 | 16 => damaged(chance),
-        17 => damaged_twice(chance),
-        18 => cut(chance),
+    if chance.one_in(5) {
+        return Cards::any(chance).bytes();
+    }
+    damaged_somehow(chance)
+}
+
+pub fn damaged_somehow(chance: &mut Chance) -> Vec<u8> {
+    match chance.below(16) {
+        0 | 1 => without_t(chance),
+        2 | 3 => with_second_t(chance),
+        4 | 5 => with_foreign_card(chance),
+        6..=8 => with_bad_location(chance),
+        9 => with_first_order_000(chance),
+        10 => garbage(chance),
+        11 | 12 => damaged(chance),
+        13 => damaged_twice(chance),
+        14 => cut(chance),
         _ => with_more_behind(chance),
     }
 }

@@ -4,11 +4,25 @@ pub mod build;
 mod cases;
 mod judge;
 
+use crate::chance::Chance;
 use crate::files::{Reading, Writing};
-use crate::model::deck::check;
+use crate::model::deck::{check, Fault};
 use crate::model::stop::Reason;
 
 pub use judge::judge;
+
+/// A deck with this fault, from the decks of chance. Over-long decks are made, not waited for.
+pub fn with_fault(fault: Fault, chance: &mut Chance) -> Vec<u8> {
+    if fault == Fault::TooLong {
+        return vec![b'?'; 65_537 + chance.index(3)];
+    }
+    loop {
+        let deck = cases::damaged_somehow(chance);
+        if deck.len() < 1_000 && check(&deck).is_err_and(|(found, _)| found == fault) {
+            return deck;
+        }
+    }
+}
 
 /// The answer of the C call: 0 and 0, or 11 and the place.
 fn answer(deck: &[u8]) -> (u64, u64) {

@@ -141,13 +141,6 @@ pub fn code(order: Order) -> Option<Code> {
     built.map(|(_, _, code, _)| *code)
 }
 
-impl Code {
-    pub fn name(self) -> &'static str {
-        let entry = BUILT.iter().find(|(_, _, code, _)| *code == self);
-        entry.expect("every code stands in the table").3
-    }
-}
-
 #[cfg(test)]
 mod tests {
     use super::*;

@@ -89,6 +89,9 @@ fn result_cell(draft: &mut Draft, chance: &mut Chance) -> u64 {
 
 pub fn aim(event: Event, draft: &mut Draft, chance: &mut Chance) -> Aimed {
     match event {
+        Event::Completed { code: Code::Loop(named), way, modified, .. } => {
+            loop_aim(Code::Loop(named), named, way == Way::ToC, modified, chance)
+        }
         Event::Completed { code, way, stopped, tracing, .. } => {
             completed(code, way, stopped, tracing != Tracing::Plain, draft, chance)
         }
@@ -145,7 +148,6 @@ fn completed(code: Code, way: Way, stopped: bool, traced: bool, draft: &mut Draf
             let c = marked(any_word(chance), draft, chance);
             Aimed::of(built(code, 0, any_address(chance), c))
         }
-        Code::Loop(named) => loop_aim(code, named, way == Way::ToC, chance),
         Code::Change(..) => {
             let b = marked(any_word(chance), draft, chance);
             Aimed::of(built(code, 0, b, any_address(chance)))
@@ -172,20 +174,31 @@ fn of_one(operation: OfOne, word: Word, draft: &mut Draft, chance: &mut Chance) 
 }
 
 /// The largest named count, once raised, is below B or not; now and then by as little as can be.
-fn loop_aim(code: Code, named: [bool; 3], again: bool, chance: &mut Chance) -> Aimed {
-    let most = chance.pick(&[1, 4, 999]);
-    let mut counts = [0; 3].map(|_| chance.below(most + 1));
-    if again {
-        counts = counts.map(|count| count.min(997));
+fn loop_aim(code: Code, named: [bool; 3], again: bool, modified: bool, chance: &mut Chance) -> Aimed {
+    loop {
+        let most = chance.pick(&[1, 4, 999]);
+        let most = if again { most.min(997) } else { most };
+        let counts = [0; 3].map(|_| chance.below(most + 1));
+        let raised = (0..3).filter(|&i| named[i]).map(|i| counts[i] + 1).max().expect("a loop names a count");
+        let b = match (again, chance.percent(50)) {
+            (true, true) => raised + 1,
+            (true, false) => chance.between(raised + 1, 999),
+            (false, true) => raised.min(999),
+            (false, false) => chance.below(raised.min(999) + 1),
+        };
+        let order = built(code, 0, b, any_address(chance));
+        if !modified || before(order, counts).is_some() {
+            return Aimed { counts: Some(counts), ..Aimed::of(order) };
+        }
     }
-    let raised = (0..3).filter(|&i| named[i]).map(|i| counts[i] + 1).max().expect("a loop names a count");
-    let b = match (again, chance.percent(50)) {
-        (true, true) => raised + 1,
-        (true, false) => chance.between(raised + 1, 999),
-        (false, true) => raised.min(999),
-        (false, false) => chance.below(raised.min(999) + 1),
-    };
-    Aimed { counts: Some(counts), ..Aimed::of(built(code, 0, b, any_address(chance))) }
+}
+
+/// The minus order that these counts make into `done`, if there is one and it is another.
+pub fn before(done: Order, counts: [u64; 3]) -> Option<Order> {
+    let [a, b, c] = counts;
+    let a = done.a.checked_sub(a)?;
+    let (b, c) = (done.b.checked_sub(b)?, done.c.checked_sub(c)?);
+    (counts != [0; 3]).then_some(Order { minus: true, o1: done.o1, a, b, c })
 }
 
 fn refused(code: Code, reason: Reason, draft: &mut Draft, chance: &mut Chance) -> Aimed {

@@ -79,42 +79,49 @@ pub fn read(reason: Option<Reason>, draft: &mut Draft, chance: &mut Chance) -> A
         reason,
         Some(Reason::CardElsewhere(Turn::Later) | Reason::CardPastBlock(Turn::Later) | Reason::NoCard(Turn::Later))
     );
-    // Five more cells behind the block are kept for a card that passes its end.
-    let length = if later { chance.between(2, 9) } else { block_length(chance) };
-    let start = draft.free(length + 5, chance);
+    let past = matches!(reason, Some(Reason::CardPastBlock(_)));
+    let length = match (past, later) {
+        (true, false) => chance.between(1, 4),
+        (_, true) => chance.between(2, 9),
+        _ => block_length(chance),
+    };
+    // Cells behind the block are kept for a card that passes its end.
+    let start = draft.free(length + if past { 5 } else { 0 }, chance);
     if chance.percent(50) {
         draft.put(start, any_word(chance));
     }
     let mut cards = filling(start, length, later, chance);
-    let bad = if later { chance.between(1, cards.len() as u64 - 1) as usize } else { 0 };
-    let mut ends = false;
+    if past && !later {
+        cards = vec![DataCard { location: start, ..any_card(chance, length) }];
+    }
+    let bad = if later { 1 + chance.index(cards.len() - 1) } else { 0 };
     match reason {
         Some(Reason::CardElsewhere(_)) => cards[bad].location = elsewhere(&cards[bad], chance),
         Some(Reason::CardPastBlock(_)) => {
-            cards.truncate(bad + 1);
-            let here = cards[bad].location;
-            let most = start + length - here;
-            let words = if most < 5 { chance.between(most + 1, 5) } else { 5 };
-            cards[bad] = DataCard { location: here, ..any_card(chance, words) };
+            let last = cards.pop().expect("a block takes a card");
+            let words = chance.between(last.words.len() as u64 + 1, 5);
+            cards.push(DataCard { location: last.location, ..any_card(chance, words) });
         }
-        Some(Reason::NoCard(_)) => {
-            cards.truncate(bad);
-            ends = true;
-        }
+        Some(Reason::NoCard(_)) => cards.truncate(bad),
         _ => {}
     }
+    let ends = matches!(reason, Some(Reason::NoCard(_)));
     let last = start + length - 1;
     Aimed { deck: Some(around(cards, ends, chance)), ..Aimed::of(built(Code::Read, 0, start, last)) }
 }
 
-/// Cards of chance that fill the block; at least two of them if a later one is to fail.
+/// Cards of chance that fill the block. If a later one is to fail, there are at least two, and the
+/// last has fewer than five words.
 fn filling(start: u64, length: u64, several: bool, chance: &mut Chance) -> Vec<DataCard> {
     let mut cards = Vec::new();
     let mut at = start;
     while at < start + length {
         let left = start + length - at;
         let most = if several && cards.is_empty() { left - 1 } else { left };
-        let words = chance.between(1, most.min(5));
+        let words = match left {
+            5 if several => chance.between(1, 4),
+            _ => chance.between(1, most.min(5)),
+        };
         cards.push(DataCard { location: at, ..any_card(chance, words) });
         at += words;
     }

@@ -79,9 +79,10 @@ impl Draft {
 
     /// Ends the layout. A few drums are sent in full.
     pub fn begin(&mut self, state: Vec<u64>, chance: &mut Chance) {
-        let pairs = self.values.iter().map(|(&cell, &value)| (cell, value)).collect();
+        let within = |map: &BTreeMap<u64, u64>, length: u64| map.range(..length).map(|(&i, &v)| (i, v)).collect();
+        let pairs = within(&self.values, self.cells_length);
         let mut cells = Cells::Sparse { length: self.cells_length, fill: self.fill, pairs };
-        let pairs = self.marks.iter().map(|(&cell, &mark)| (cell, mark)).collect();
+        let pairs = within(&self.marks, self.marks_length);
         let mut marks = Marks::Sparse { length: self.marks_length, pairs };
         if chance.one_in(200) {
             (cells, marks) = (Cells::Full(cells.all()), Marks::Full(marks.all()));

@@ -1,0 +1,138 @@
+//! The sessions that begin every stream: the paper's own, its blunders, and the largest of all.
+
+use super::draft::Draft;
+use crate::chance::Chance;
+use crate::decks::build::longest;
+use crate::decks::with_fault;
+use crate::model::deck::Fault;
+use crate::model::word::Word;
+use crate::sessions::message::Message;
+
+const PAPER: &str = "30001101+1200201202+0410202202+0000202000007\
+                     20002200+1000000050+2000000050007\
+                     T101007";
+
+/// The session of this index, or none behind the last.
+pub fn session(index: u64, chance: &mut Chance) -> Option<Vec<Message>> {
+    let mut draft = Draft::new(chance);
+    match index {
+        0 => paper(0, &mut draft, chance),
+        1 => paper(1, &mut draft, chance),
+        2 => the_largest_budget(&mut draft, chance),
+        3 => the_longest_deck(&mut draft, chance),
+        4 => all_cells_punched(&mut draft, chance),
+        5 => over_long_decks(&mut draft, chance),
+        6 => read_finds_its_second_card_wrong(&mut draft, chance),
+        7 => bad_punch_in_traced_mode(&mut draft, chance),
+        8 => sellers_table(&mut draft, chance),
+        9 => empty_run(&mut draft, chance),
+        _ => return None,
+    }
+    Some(draft.finish())
+}
+
+fn put(draft: &mut Draft, location: u64, words: &[&str]) {
+    for (cell, word) in (location..).zip(words) {
+        draft.put(cell, Word::of_text(word.as_bytes()));
+    }
+}
+
+fn paper(traced: u64, draft: &mut Draft, chance: &mut Chance) {
+    draft.begin(vec![0; 9], chance);
+    draft.deck(PAPER);
+    draft.load(traced);
+    for budget in [0, 1, 1, 999_999, 999_999] {
+        draft.run(300, budget, 1);
+    }
+}
+
+/// A transfer to itself for 999,999 orders, and a loop that counts to 999 over and over.
+fn the_largest_budget(draft: &mut Draft, chance: &mut Chance) {
+    put(draft, 101, &["+0203000101"]);
+    put(draft, 200, &["-0454000000", "+0111999200", "+0203000200"]);
+    draft.begin(vec![101, 0, 0, 0, 0, 0, 7, 0, 0], chance);
+    draft.deck("T101000");
+    draft.run(0, 999_999, 0);
+    draft.set_state([200, 0, 0, 0, 0, 0, 7, 0, 0]);
+    draft.run(0, 50_000, 0);
+    draft.set_state([101, 0, 0, 0, 0, 0, 7, 1, 1]);
+    draft.run(40_000, 999_999, 0);
+}
+
+fn the_longest_deck(draft: &mut Draft, chance: &mut Chance) {
+    draft.begin(vec![u64::MAX; 9], chance);
+    draft.deck(longest(chance).bytes());
+    draft.load(0);
+    draft.run(1_000, 100, 0);
+    let cards: String = (0..992).map(|_| "50000001+0000000001-0000000002+0000000003+0000000004+9999999999000").collect();
+    draft.deck(format!("T500000{cards}"));
+    draft.load(0);
+    let state = draft.state().to_vec();
+    draft.set_state([500, 0, 0, 0, 0, 0, state[6] + 66 * 991, 0, 0]);
+    draft.run(0, 5, 0);
+}
+
+fn all_cells_punched(draft: &mut Draft, chance: &mut Chance) {
+    for cell in 1..1_000 {
+        draft.put(cell, Word { minus: cell % 3 == 0, digits: cell * 7_777_777 });
+    }
+    put(draft, 500, &["+0410001999", "+0410001998", "-0410001999"]);
+    draft.begin(vec![500, 0, 0, 0, 9_900, 999, 7, 0, 0], chance);
+    draft.deck("T500000");
+    draft.run(200 * 11 + 999 * 11 - 1, 1, 0);
+    draft.run(200 * 11 + 999 * 11, 1, 0);
+    draft.run(30_000, 2, 0);
+}
+
+fn over_long_decks(draft: &mut Draft, chance: &mut Chance) {
+    put(draft, 1, &["+0454000000"]);
+    draft.begin(vec![1, 0, 0, 0, 0, 0, 7, 0, 0], chance);
+    draft.deck(with_fault(Fault::TooLong, chance));
+    draft.load(0);
+    draft.run(100, 1, 0);
+    draft.deck("T001000");
+    draft.run(100, 1, 0);
+}
+
+fn read_finds_its_second_card_wrong(draft: &mut Draft, chance: &mut Chance) {
+    put(draft, 101, &["+0400300302"]);
+    draft.begin(vec![101, 0, 0, 0, 0, 0, 7, 0, 0], chance);
+    draft.deck("T10100720000300+0000000001+000000000200010000303+0000000003000");
+    draft.run(0, 1, 0);
+    draft.deck("T10100720000300+0000000001+0000000002000");
+    draft.run(0, 1, 0);
+    draft.deck("T10100720000300+0000000001+000000000200010000302-0000000003000");
+    draft.run(0, 1, 0);
+}
+
+fn bad_punch_in_traced_mode(draft: &mut Draft, chance: &mut Chance) {
+    put(draft, 101, &["+0410005004", "+0451000000", "+0410000000", "+0410900901"]);
+    draft.begin(vec![101, 0, 0, 0, 9_999, 7, 7, 1, 1], chance);
+    draft.deck("T101007");
+    draft.run(200, 4, 0);
+    draft.set_state([101, 0, 0, 0, 0, 7, 7, 0, 0]);
+    draft.run(200, 4, 0);
+}
+
+/// Marks and words from before a load stay.
+fn sellers_table(draft: &mut Draft, chance: &mut Chance) {
+    put(draft, 700, &["+7000000050", "-0000000000"]);
+    put(draft, 101, &["-9999999999"]);
+    draft.begin(vec![5_000; 9], chance);
+    draft.deck(format!("{PAPER}?"));
+    draft.load(1);
+    draft.deck(PAPER.replace("+1200201202", "+1200700202"));
+    draft.load(0);
+    draft.run(100, 10, 0);
+}
+
+/// Locations that no order has, and no order in the cell.
+fn empty_run(draft: &mut Draft, chance: &mut Chance) {
+    draft.begin(vec![0, 0, 0, 0, 0, 0, 7, 0, 0], chance);
+    draft.deck("T101007");
+    for location in [0, 1, 999, 1_000, 1_001] {
+        draft.set_state([location, 0, 0, 0, 0, 0, 7, 0, 0]);
+        draft.run(0, 0, 0);
+        draft.run(0, 1, 0);
+    }
+}

@@ -1,0 +1,179 @@
+//! Sessions of probes: each probe is a short run that is aimed at one event.
+
+use super::aim::{aim, any_address, before, built, unmarked, Aimed};
+use super::draft::Draft;
+use crate::chance::Chance;
+use crate::decks::build::Cards;
+use crate::model::event::{Event, Tracing};
+use crate::model::order::{Code, Order};
+use crate::model::stop::{Field, Reason};
+use crate::model::word::Word;
+use crate::sessions::message::Message;
+
+/// How many probes share a drum.
+pub const PROBES: u64 = 5;
+
+const TRACE_CARD: u64 = 77;
+
+/// A probe that has its cells, ready to be run.
+struct Probe {
+    tracing: Tracing,
+    location: u64,
+    counts: [u64; 3],
+    /// Orders up to the one aimed at, itself included.
+    orders: u64,
+    room: u64,
+    deck: Option<(String, u64)>,
+    switch_on_stop: bool,
+}
+
+/// A session with one probe for each of the events.
+pub fn session(events: &[Event], chance: &mut Chance) -> Vec<Message> {
+    let draft = &mut Draft::new(chance);
+    let probes: Vec<Probe> = events.iter().map(|&event| laid_out(event, draft, chance)).collect();
+    draft.begin(vec![0; 9], chance);
+    let common = Cards::any(chance).bytes();
+    let common_end = common.len() as u64;
+    let mut lying = Vec::new();
+    for probe in probes {
+        let (deck, reader) = match &probe.deck {
+            Some((deck, reader)) => (deck.clone().into_bytes(), *reader),
+            None => (common.clone(), common_end),
+        };
+        if deck != lying {
+            draft.deck(deck.clone());
+            lying = deck;
+        }
+        let mode = (probe.tracing != Tracing::Plain) as u64;
+        let tracing = (probe.tracing == Tracing::On) as u64;
+        let [a, b, c] = probe.counts;
+        let counter = chance.pick(&[0, 1, 9_998, 9_999, 1_234]);
+        draft.set_state([probe.location, a, b, c, counter, chance.below(1_000), reader, mode, tracing]);
+        play(&probe, draft, chance);
+    }
+    std::mem::replace(draft, Draft::new(chance)).finish()
+}
+
+/// Runs a probe, and often goes on with what it has left.
+fn play(probe: &Probe, draft: &mut Draft, chance: &mut Chance) {
+    let stop = if probe.switch_on_stop { chance.pick(&[1, 2, u64::MAX]) } else { 0 };
+    let budget = probe.orders + chance.pick(&[0, 0, 1, 3]);
+    let ended = draft.run(probe.room, budget, stop);
+    let again = match ended.number {
+        22 => true,
+        0..=2 => chance.one_in(3),
+        _ => chance.one_in(8),
+    };
+    if again {
+        let room = chance.pick(&[probe.room, 77, 154, 900]);
+        draft.run(room, chance.between(1, 3), stop);
+    }
+}
+
+fn laid_out(event: Event, draft: &mut Draft, chance: &mut Chance) -> Probe {
+    let (tracing, modified) = match event {
+        Event::Completed { tracing, modified, .. } => (tracing, modified),
+        Event::OrderRefused { tracing, .. } | Event::Refused { tracing, .. } => (tracing, chance.one_in(4)),
+        _ => panic!("a probe is aimed at what an order comes to"),
+    };
+    let aimed = aim(event, draft, chance);
+    let mut probe = placed(aimed, modified, tracing, draft, chance);
+    if let Event::Refused { reason, .. } = event {
+        refuse_early(&mut probe, reason, draft, chance);
+    }
+    probe
+}
+
+/// Puts the order, and one that leads to it if needed, into cells of their own.
+fn placed(aimed: Aimed, modified: bool, tracing: Tracing, draft: &mut Draft, chance: &mut Chance) -> Probe {
+    let leading = aimed.lead.is_some() as u64;
+    let location = draft.free(leading + 1, chance);
+    if let Some(word) = aimed.lead {
+        let from = draft.free_word(word, chance);
+        draft.put_order(location, built(Code::Move000, 0, from, 0));
+    }
+    let (order, counts) = stored(&aimed, modified, chance);
+    draft.put_order(location + leading, order);
+    let cards = if tracing == Tracing::On { TRACE_CARD * (leading + 1) } else { 0 };
+    let slack = chance.pick(&[0, 0, 1, 76, 200]);
+    Probe {
+        tracing,
+        location,
+        counts,
+        orders: leading + 1,
+        room: cards + aimed.room.unwrap_or(slack),
+        deck: aimed.deck,
+        switch_on_stop: aimed.switch_on_stop,
+    }
+}
+
+/// The order as stored and the loop box, so that it is done as aimed. If it is to be modified, it
+/// is a minus order with a live box; otherwise it may still be a minus order with a clear box.
+fn stored(aimed: &Aimed, modified: bool, chance: &mut Chance) -> (Order, [u64; 3]) {
+    let done = aimed.order;
+    if modified {
+        let most = chance.pick(&[1, 3, 999]);
+        let drawn = [done.a, done.b, done.c].map(|address| chance.below(address.min(most) + 1));
+        let counts = aimed.counts.unwrap_or(drawn);
+        if let Some(order) = before(done, counts) {
+            return (order, counts);
+        }
+    }
+    if let Some(counts) = aimed.counts {
+        return (done, counts);
+    }
+    if chance.one_in(4) {
+        return (Order { minus: true, ..done }, [0; 3]);
+    }
+    let most = chance.pick(&[0, 2, 999]);
+    (done, [0; 3].map(|_| chance.below(most + 1)))
+}
+
+/// Refusals that come before the order's code is looked at.
+fn refuse_early(probe: &mut Probe, reason: Reason, draft: &mut Draft, chance: &mut Chance) {
+    match reason {
+        Reason::Location000 | Reason::LocationPast999 if chance.percent(50) => {
+            probe.location = if reason == Reason::Location000 { 0 } else { 1_000 };
+        }
+        Reason::Location000 => {
+            draft.put_order(probe.location, built(Code::Tr, 0, any_address(chance), 0));
+            go_on_behind(probe);
+        }
+        Reason::LocationPast999 => {
+            probe.location = 999;
+            draft.put_order(999, built(Code::Noop, 0, any_address(chance), any_address(chance)));
+            go_on_behind(probe);
+        }
+        Reason::OrderUnmarked => probe.location = unmarked(draft, chance),
+        Reason::SumAbove999(field) => sum_above_999(probe, field, draft, chance),
+        Reason::NoRoomForTrace => {
+            let short = chance.pick(&[1, 2, 77, 77]);
+            probe.room = TRACE_CARD * probe.orders - short;
+        }
+        _ => {}
+    }
+}
+
+/// The refusal is that of the next order.
+fn go_on_behind(probe: &mut Probe) {
+    probe.counts = [0; 3];
+    probe.orders = 2;
+    probe.room += TRACE_CARD;
+}
+
+/// One of the three sums passes 999, by one or by more; those before it do not.
+fn sum_above_999(probe: &mut Probe, field: Field, draft: &mut Draft, chance: &mut Chance) {
+    let digits = chance.below(1_000_000_000) + chance.pick(&[0, 0, 1, 2, 9]) * 1_000_000_000;
+    let mut order = Order::of_word(Word { minus: true, digits });
+    let address = chance.between(1, 999);
+    order = order.with_address(field, address);
+    let count = if chance.percent(50) { 1_000 - address } else { chance.between(1_000 - address, 999) };
+    let fitting = |address: u64, chance: &mut Chance| chance.below(1_000 - address);
+    let any = |chance: &mut Chance| chance.below(1_000);
+    probe.counts = match field {
+        Field::A => [count, any(chance), any(chance)],
+        Field::B => [fitting(order.a, chance), count, any(chance)],
+        Field::C => [fitting(order.a, chance), fitting(order.b, chance), count],
+    };
+    draft.put_order(probe.location, order);
+}
