@@ -1,1 +1,6 @@
 pub mod Tests
+pub mod Nearest
+pub mod Rounding
+pub mod Roots
+pub mod Fractions
+pub mod Sums
