@@ -1,6 +1,5 @@
 -- Powers of ten as far as 64 bits hold them. Assumes nothing.
 use Prim.Native.Nat.{ℕ, _^_}
-use mathlib.Core.Bool.{Bool, true, false}
 use lib.Dec.{ltb}
 use Rattle.rules.specs.Words.{pick}
 

@@ -1,1 +1,3 @@
 pub mod Session
+pub mod Rounding
+pub mod Reckoning

@@ -1,4 +1,5 @@
 pub mod Tests
+pub mod Words
 pub mod Nearest
 pub mod Rounding
 pub mod Roots

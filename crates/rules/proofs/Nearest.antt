@@ -1,7 +1,7 @@
 -- The nearest whole number of units, and the place that a search from above finds: why there is one such place. Everything here holds
 -- for any number of digits d. Assumes nothing.
-use Prim.Native.Nat.{ℕ, zero, suc, _+_, _-_, _*_, _/_, _^_, _≤_, _<_}
-use mathlib.Core.Path.{_≡_, refl, sym, ap, subst, _∙_}
+use Prim.Native.Nat.{ℕ, zero, suc, _+_, _*_, _/_, _^_, _≤_, _<_}
+use mathlib.Core.Path.{_≡_, refl, sym, subst, _∙_}
 use mathlib.Core.Bool.{Bool, true, false}
 use native.Mathlib.Nat.{le-antisymm, lt-of-not-le, lt-of-mul-lt-mul-right, mul-le-mul-left, mul-le-mul-right, div-mul-le-self, lt-div-mul-add, le-div-iff-mul-le, one-le-pow, pow-le-pow-right, zero-lt-suc}
 use native.Mathlib.Decide.{decLe}

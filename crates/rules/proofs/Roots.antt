@@ -1,7 +1,7 @@
 -- The facts on roots: the definition's root is the root cut to a whole number, there is one such number, and a square factor comes out of
 -- it. Nothing here depends on how many digits are asked for. Assumes nothing.
 use Prim.Native.Nat.{ℕ, zero, suc, _+_, _*_, _/_, _^_, _≤_, _<_}
-use mathlib.Core.Path.{_≡_, refl, sym, ap, subst, _∙_}
+use mathlib.Core.Path.{_≡_, refl, ap, subst, _∙_}
 use mathlib.Core.Bool.{Bool, true, false}
 use native.Mathlib.Nat.{le-antisymm, lt-of-not-le, lt-of-mul-lt-mul-right, le-of-mul-le-mul-right, mul-le-mul, div-mul-le-self, lt-div-mul-add, pow-suc}
 use native.Mathlib.Decide.{decLe}

@@ -1,6 +1,6 @@
 -- The facts on rounding, for any form of numbers: whoever has digits and a place that are right has the definition's answer, and the
 -- definition's own answer is right. Assumes nothing.
-use Prim.Native.Nat.{ℕ, zero, suc, _+_, _-_, _*_, _/_, _^_, _≤_, _<_}
+use Prim.Native.Nat.{ℕ, suc, _+_, _-_, _*_, _/_, _^_, _≤_, _<_}
 use mathlib.Core.Path.{_≡_, refl, sym, ap, subst, _∙_}
 use mathlib.Core.Bool.{Bool, true, false}
 use native.Mathlib.Nat.{lt-of-not-le, lt-of-mul-lt-mul-right, mul-le-mul-right, mul-comm, div-mul-le-self, lt-div-mul-add, pow-suc}
@@ -8,11 +8,11 @@ use native.Mathlib.Decide.{decLe}
 use native.Mathlib.Omega.{arith}
 use lib.Dec.{eqb, leb, ltb}
 use lib.Pow.{pow-add}
-use borrow.Author.Tests.{eqb-true, eqb-false, leb-true, ltb-true, eq-eqb, ne-eqb, le-leb, lt-leb, lt-ltb, le-ltb}
+use borrow.Author.Tests.{leb-true, ltb-true, eq-eqb, ne-eqb, le-leb, lt-leb, lt-ltb, le-ltb}
 use Rattle.rules.specs.Words.{pick}
-use Rattle.rules.specs.Rounding.{Form, Settled, nought, value, outside, nearest, place, placeIn, placed, settled}
+use Rattle.rules.specs.Rounding.{Form, nought, value, outside, nearest, placeIn, placed, settled}
 use Rattle.rules.specs.Rounded.{Rounded}
-use Rattle.rules.proofs.Nearest.{ten-above, nearest-reached, nearest-not-passed, nearest-is, Right, place-right, place-beyond, right-place}
+use Rattle.rules.proofs.Nearest.{ten-above, nearest-not-passed, nearest-is, Right, place-right, place-beyond, right-place}
 
 -- What is nearest and at the right place is rounded, and the other way round.
 
