@@ -4,3 +4,5 @@ pub mod Unseen
 pub mod Kept
 pub mod Undone
 pub mod Counting
+pub mod Rounding
+pub mod Reckoning

@@ -4,3 +4,5 @@ pub mod Calls
 pub mod Foreign
 pub mod Undone
 pub mod Counting
+pub mod Rounding
+pub mod Reckoning

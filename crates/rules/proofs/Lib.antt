@@ -1,3 +1,10 @@
 pub mod Views
 pub mod Undone
 pub mod Growth
+pub mod Tests
+pub mod Words
+pub mod Nearest
+pub mod Rounding
+pub mod Roots
+pub mod Fractions
+pub mod Sums

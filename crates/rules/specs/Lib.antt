@@ -1,5 +1,6 @@
 pub mod Words
 pub mod Rounding
+pub mod Rounded
 pub mod Numbers
 pub mod Arithmetic
 pub mod Drum

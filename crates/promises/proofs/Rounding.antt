@@ -1,0 +1,169 @@
+-- Fractions and roots are rounded once, in any form: their halves know all that rounding asks. Assumes nothing.
+use Prim.Native.Nat.{ℕ, suc, _+_, _-_, _*_, _^_, _≤_, _<_}
+use mathlib.Core.Path.{_≡_, refl, sym, ap, subst, subst₂, _∙_}
+use native.Mathlib.Nat.{lt-of-not-le, mul-le-mul, mul-le-mul-right, le-div-iff-mul-le, pow-suc}
+use native.Mathlib.Decide.{decLe}
+use native.Mathlib.Omega.{arith}
+use Rattle.rules.specs.Rounding.{Form, nought, value, outside, nearest, placed, settled, fraction, rootHalves}
+use Rattle.rules.specs.Rounded.{RootCut}
+use Rattle.rules.proofs.Nearest.{ten-above, ten-rises, nearest-reached, nearest-not-passed, nearest-is, Right, one-place}
+use Rattle.rules.proofs.Rounding.{filled, placed-within, placed-below, placed-above, settled-none, settled-at, Answer, answered}
+use Rattle.rules.proofs.Roots.{no-larger, root-below}
+use Rattle.promises.specs.Rounding.{Magnitude, fractionOf, rootOf, RoundedTo, Number, Rounds, FractionRounds, RootRounds}
+
+-- what is used of the halves of a magnitude
+record Halves (x : Magnitude) (h : ℕ) : Type 0 where
+  reach : (t : ℕ) → t ≤ h → x 1 t
+  reached : (t : ℕ) → x 1 t → t ≤ h
+  tenfold : (t : ℕ) → x 1 t → x 10 (10 * t)
+  tenth : (t : ℕ) → x 10 (10 * t) → x 1 t
+  less : (t v : ℕ) → t ≤ v → x 10 v → x 10 t
+
+-- a unit and its tenth
+tenth-unit : (d k : ℕ) → 2 * (10 ^ d * 10 ^ suc k) - 10 ^ suc k ≡ 10 * (2 * (10 ^ d * 10 ^ k) - 10 ^ k)
+tenth-unit d k = ap (λ (u : ℕ). 2 * (10 ^ d * u) - u) (pow-suc 10 k) ∙ omega arith
+
+-- at the right place the first of d digits is not 0
+first-digit : (c h k : ℕ) → 10 ^ suc c ≤ nearest h k → 10 ^ c ≤ nearest h (suc k)
+first-digit c h k l = either (decLe (10 ^ c) (nearest h (suc k)))
+  where
+    either : Dec (10 ^ c ≤ nearest h (suc k)) → 10 ^ c ≤ nearest h (suc k)
+    either (yes g) = g
+    either (no g) =
+        let m : ℕ = nearest h (suc k) in
+        let few : suc m ≤ 10 ^ c = lt-of-not-le g in
+        let many : 10 ^ c * 10 ≤ nearest h k = subst (λ (t : ℕ). t ≤ nearest h k) (pow-suc 10 c) l in
+        let high : h < 2 * (m * (10 ^ k * 10)) + 10 ^ k * 10 = subst (λ (u : ℕ). h < 2 * (m * u) + u) (pow-suc 10 k) (nearest-not-passed h (suc k)) in
+        absurd (omega (arith, nearest-reached h k, mul-le-mul-right (10 ^ k) many, mul-le-mul-right (10 ^ k) few))
+
+module _ (f : Form) (some : 0 < f .digits) (x : Magnitude) (h : ℕ) (w : Halves x h) where
+  -- digits and place that are right are the nearest, at the place that is found
+  module _ (e m : ℕ) (r : RoundedTo (f .digits) x (10 ^ e) m) where
+    is-nearest : nearest h e ≡ m
+    is-nearest = nearest-is h e m (omega (arith, w .reached (2 * (m * 10 ^ e) - 10 ^ e) (r .atLeast))) (passed (decLe (2 * (m * 10 ^ e) + 10 ^ e) h))
+      where
+        passed : Dec (2 * (m * 10 ^ e) + 10 ^ e ≤ h) → h < 2 * (m * 10 ^ e) + 10 ^ e
+        passed (yes l) = absurd (r .below (w .reach (2 * (m * 10 ^ e) + 10 ^ e) l))
+        passed (no g) = lt-of-not-le g
+
+    is-right : Right (f .digits) h e
+    is-right =
+        record {
+          enough = omega (arith, is-nearest, r .fits);
+          notBelow =
+              λ k i.
+              let full : x 10 (10 * (2 * (10 ^ f .digits * 10 ^ k) - 10 ^ k)) =
+              subst (x 10) (ap (λ (t : ℕ). 2 * (10 ^ f .digits * 10 ^ t) - 10 ^ t) i ∙ tenth-unit (f .digits) k) (r .full) in
+              filled (f .digits) h k (omega (arith, w .reached (2 * (10 ^ f .digits * 10 ^ k) - 10 ^ k) (w .tenth (2 * (10 ^ f .digits * 10 ^ k) - 10 ^ k) full)));
+        }
+
+    is-some : 0 < h
+    is-some =
+        let l : 10 * 1 ≤ 2 * (10 ^ f .digits * 10 ^ e) - 10 ^ e = omega (arith, ten-above e, mul-le-mul-right (10 ^ e) (ten-rises some)) in
+        w .reached 1 (w .tenth 1 (w .less (10 * 1) (2 * (10 ^ f .digits * 10 ^ e) - 10 ^ e) l (r .full)))
+
+    settles : (s : ℕ) → settled f s h ≡ placed f s m e
+    settles s = settled-at f s h e is-some is-right ∙ ap (λ (t : ℕ). placed f s t e) is-nearest
+
+  -- what is nearest at the right place, above the lowest, is rounded
+  right-rounded : (k : ℕ) → Right (f .digits) h (suc k) → RoundedTo (f .digits) x (10 ^ suc k) (nearest h (suc k))
+  right-rounded k r =
+      let m : ℕ = nearest h (suc k) in
+      let u : ℕ = 10 ^ suc k in
+      let v : ℕ = 2 * (10 ^ f .digits * 10 ^ k) - 10 ^ k in
+      let low : 2 * (m * u) - u ≤ h = omega (arith, nearest-reached h (suc k)) in
+      let tenth-low : v ≤ h = omega (arith, nearest-reached h k, mul-le-mul-right (10 ^ k) (r .notBelow k refl)) in
+      record {
+        atLeast = w .reach (2 * (m * u) - u) low;
+        below = λ y. omega (arith, w .reached (2 * (m * u) + u) y, nearest-not-passed h (suc k));
+        fits = r .enough;
+        full = subst (x 10) (sym (tenth-unit (f .digits) k)) (w .tenfold v (w .reach v tenth-low));
+      }
+
+  number : (s t m a : ℕ) → settled f s h ≡ value t m a → Number f x s t m a
+  number s t m a i =
+      let z : Answer f s h t m a = answered f s h t m a i in
+      let c : ℕ = f .digits - 1 in
+      let k : ℕ = a + f .exponents - 1 in
+      let e : a + f .exponents ≡ suc k = omega (arith, z .range) in
+      let n : m ≡ nearest h (suc k) = z .digits ∙ ap (nearest h) e in
+      let r : Right (f .digits) h (suc k) = subst (Right (f .digits) h) e (z .right) in
+      let many : 10 ^ suc c ≤ nearest h k = subst (λ (j : ℕ). 10 ^ j ≤ nearest h k) (omega arith) (r .notBelow k refl) in
+      record {
+        sign = z .sign;
+        first = subst (λ (j : ℕ). 10 ^ c ≤ j) (sym n) (first-digit c h k many);
+        range = z .range;
+        rounded = subst₂ (λ (j l : ℕ). RoundedTo (f .digits) x (10 ^ j) l) (sym e) (sym n) (right-rounded k r);
+      }
+
+  -- a magnitude that has not d digits at the lowest place
+  small : (s : ℕ) → x 1 1 → (x 10 (2 * 10 ^ f .digits - 1) → ⊥) → settled f s h ≡ outside
+  small s one few = settled-at f s h 0 (w .reached 1 one) lowest ∙ judged (decLe (f .exponents) 0)
+    where
+      lowest : Right (f .digits) h 0
+      lowest = record { enough = either (decLe (10 ^ f .digits) (nearest h 0)); notBelow = λ k i. absurd (omega arith) }
+        where
+          either : Dec (10 ^ f .digits ≤ nearest h 0) → nearest h 0 < 10 ^ f .digits
+          either (no g) = lt-of-not-le g
+          either (yes l) =
+              let v : ℕ = 2 * 10 ^ f .digits - 1 in
+              let g : v ≤ h = omega (arith, nearest-reached h 0) in
+              absurd (few (w .less v (10 * v) (omega arith) (w .tenfold v (w .reach v g))))
+
+      judged : Dec (f .exponents ≤ 0) → placed f s (nearest h 0) 0 ≡ outside
+      judged (yes l) = placed-above f s (nearest h 0) 0 (omega arith)
+      judged (no g) = placed-below f s (nearest h 0) 0 (lt-of-not-le g)
+
+  none : (s : ℕ) → (x 1 1 → ⊥) → settled f s h ≡ nought
+  none s less = settled-none f s h (either (decLe 1 h))
+    where
+      either : Dec (1 ≤ h) → h ≡ 0
+      either (yes l) = absurd (less (w .reach 1 l))
+      either (no g) = omega (arith, lt-of-not-le g)
+
+  rounds : Rounds f x h
+  rounds =
+      record {
+        number = number;
+        only =
+            λ e m c n r q.
+            let i : e ≡ c = one-place (f .digits) h e c (is-right e m r) (is-right c n q) in
+            (i, sym (is-nearest e m r) ∙ ap (nearest h) i ∙ is-nearest c n q);
+        within = λ s e m r l g. settles e m r s ∙ placed-within f s m e l g;
+        under = λ s e m r l. settles e m r s ∙ placed-below f s m e l;
+        over = λ s e m r l. settles e m r s ∙ placed-above f s m e l;
+        small = small;
+        none = none;
+      }
+
+pub fraction-rounds : FractionRounds
+fraction-rounds f some p q pos = rounds f some (fractionOf p q) (fraction p q) halves
+  where
+    halves : Halves (fractionOf p q) (fraction p q)
+    halves =
+        record {
+          reach = λ t l. omega (arith, le-div-iff-mul-le {k = q} {x = t} {y = 2 * p} pos .0 l);
+          reached = λ t l. le-div-iff-mul-le {k = q} {x = t} {y = 2 * p} pos .1 (omega arith);
+          tenfold = λ t l. omega arith;
+          tenth = λ t l. omega arith;
+          less = λ t v g l. omega (arith, mul-le-mul-right q g);
+        }
+
+pub root-rounds : RootRounds
+root-rounds f some n room = rounds f some (rootOf n) (rootHalves f n) halves
+  where
+    h : ℕ
+    h = rootHalves f n
+
+    cut : RootCut (4 * n) h
+    cut = root-below (7 * f .exponents) (4 * n) room
+
+    halves : Halves (rootOf n) h
+    halves =
+        record {
+          reach = λ t l. omega (arith, mul-le-mul l l, cut .reached);
+          reached = λ t l. no-larger (4 * n) t h (omega arith) (cut .notPassed);
+          tenfold = λ t l. omega arith;
+          tenth = λ t l. omega arith;
+          less = λ t v g l. omega (arith, mul-le-mul g g);
+        }
