@@ -8,10 +8,10 @@ use native.Mathlib.Nat.{add-zero, zero-add, pow-suc, pow-succ', mod-eq-of-lt, mu
 use native.Mathlib.Omega.{arith}
 use lib.Pow.{pow-add}
 use lib.Arith.{mod-mul, digits-div}
-use lib.Dec.{leb}
+use lib.Dec.{leb, ltb}
 use lib.ListN.{length, getD, take, drop}
 use lib.Seq.{getD-drop, drop-cons}
-use borrow.Author.Tests.{leb-true}
+use borrow.Author.Tests.{leb-true, ltb-true, ltb-false}
 use Rattle.rules.specs.Words.{both}
 use Rattle.rules.specs.Cards.{digits, isDigit, numberIn}
 
@@ -114,6 +114,13 @@ number-read d r a n x e h = number-low d r a n x e ∙ mod-eq-of-lt h
 -- the byte at each place from a up to e is a digit
 abbrev pub AllDigits : List ℕ → ℕ → ℕ → Type 0
 AllDigits d a e = (o : ℕ) → a ≤ o → o < e → isDigit (getD d o 0) ≡ true
+
+pub digits-join : (d : List ℕ) (a b e : ℕ) → AllDigits d a b → AllDigits d b e → AllDigits d a e
+digits-join d a b e f g o i l = by-place (ltb o b) refl
+  where
+    by-place : (t : Bool) → ltb o b ≡ t → isDigit (getD d o 0) ≡ true
+    by-place true q = f o i (ltb-true o b q)
+    by-place false q = g o (ltb-false o b q) l
 
 pub number-below : (d : List ℕ) (a n : ℕ) → AllDigits d a (a + n) → numberIn d a n < 10 ^ n
 unfolding numberIn

@@ -3,17 +3,17 @@
 use mathlib.Core.Path.{_≡_, refl, sym, ap, ap₂, subst, _∙_}
 use mathlib.Core.List.{List, [], _∷_, _++_, append-assoc}
 use mathlib.Core.Bool.{Bool, true, false}
-use Prim.Native.Nat.{ℕ, zero, suc, _+_, _*_, _%_, _≤_, _<_}
+use Prim.Native.Nat.{ℕ, zero, suc, _+_, _*_, _-_, _/_, _%_, _^_, _≤_, _<_}
 use native.Mathlib.Nat.{add-zero, add-comm, le-of-suc-le-suc}
 use native.Mathlib.Numerals.{add-one}
 use native.Mathlib.Omega.{arith}
 use lib.Dec.{ltb, eqb}
-use lib.ListN.{length, getD, take, drop, length-append}
+use lib.ListN.{length, getD, take, drop, length-append, List·getD-append}
 use lib.Seq.{getD-drop, drop-cons, drop-drop, drop-at, take-add}
-use borrow.Author.Tests.{ltb-true, ltb-false, lt-ltb, le-ltb, eqb-true}
+use borrow.Author.Tests.{ltb-true, ltb-false, lt-ltb, le-ltb, eqb-true, le-leb}
 use Rattle.rules.specs.Words.{pick}
-use Rattle.rules.specs.Cards.{digits, signByte, wordBytes, wordsBytes, dataCard, firstCard, traceCard, stopCard, width, refusalLine, isSign, numberIn, wordIn}
-use Rattle.rules.proofs.Digits.{length-digits, digits-low, number-low, number-below, number-written, AllDigits}
+use Rattle.rules.specs.Cards.{digits, signByte, wordBytes, wordsBytes, dataCard, firstCard, traceCard, stopCard, width, refusalLine, isDigit, isSign, numberIn, wordIn}
+use Rattle.rules.proofs.Digits.{length-digits, digits-at, digits-low, number-low, number-below, number-written, AllDigits}
 
 -- ---- lengths
 
@@ -56,6 +56,38 @@ first-there : (d r : List ℕ) (a b : ℕ) → drop a d ≡ b ∷ r → getD d a
 first-there d r a b e =
     ap (λ (k : ℕ). getD d k 0) (sym (add-zero a)) ∙ sym (getD-drop a d 0 0) ∙ ap (λ (l : List ℕ). getD l 0 0) e
 
+-- ---- what is written is digits, and signs with digits
+
+digit-tested : (y : ℕ) → isDigit (48 + y % 10) ≡ true
+digit-tested y = simp (le-leb 48 (48 + y % 10) (omega arith), le-leb (48 + y % 10) 57 (omega arith))
+
+pub digits-there : (d r : List ℕ) (a n x : ℕ) → drop a d ≡ digits n x ++ r → AllDigits d a (a + n)
+digits-there d r a n x e o i l =
+    let q : o ≡ a + (o - a) = omega arith in
+    let k : o - a < n = omega arith in
+    ap (λ (p : ℕ). isDigit (getD d p 0)) q
+    ∙ ap isDigit (sym (getD-drop a d (o - a) 0)
+    ∙ ap (λ (s : List ℕ). getD s (o - a) 0) e
+    ∙ List·getD-append (digits n x) r 0 (o - a) (omega (arith, length-digits n x))
+    ∙ digits-at n x (o - a) k)
+    ∙ digit-tested (x / 10 ^ (n - 1 - (o - a)))
+
+-- a sign and ten digits stand at place a
+pub record WordAt (d : List ℕ) (a : ℕ) : Type 0 where
+  pub sign : isSign (getD d a 0) ≡ true
+  pub figures : AllDigits d (a + 1) (a + 11)
+
+sign-tested : (t : Bool) → isSign (pick t 43 45) ≡ true
+sign-tested true = refl
+sign-tested false = refl
+
+pub word-there : (d r : List ℕ) (a w : ℕ) → drop a d ≡ wordBytes w ++ r → WordAt d a
+unfolding wordBytes
+word-there d r a w e = record {
+  sign = ap isSign (first-there d (digits 10 w ++ r) a (signByte w) e) ∙ sign-tested (ltb w 10000000000);
+  figures = λ o i l. digits-there d r (a + 1) 10 w (behind d (signByte w ∷ []) (digits 10 w ++ r) a 1 (a + 1) e refl refl) o i (omega arith);
+}
+
 -- ---- a word written and read
 
 sign-read : (w : ℕ) → w ≤ 19999999999 → w % 10000000000 + pick (eqb (signByte w) 45) 10000000000 0 ≡ w
@@ -83,6 +115,11 @@ AllWords ws = (i : ℕ) → i < length ws → getD ws i 0 ≤ 19999999999
 abbrev pub AreAt : List ℕ → ℕ → List ℕ → Type 0
 AreAt d a ws = (i : ℕ) → i < length ws → wordIn d (a + 11 * i) ≡ getD ws i 0
 
+next-word : (d r : List ℕ) (a w : ℕ) (ws : List ℕ) → drop a d ≡ wordsBytes (w ∷ ws) ++ r → drop (a + 11) d ≡ wordsBytes ws ++ r
+unfolding wordsBytes
+next-word d r a w ws e =
+    behind d (wordBytes w) (wordsBytes ws ++ r) a 11 (a + 11) (e ∙ append-assoc (wordBytes w) (wordsBytes ws) r) (length-word w) refl
+
 pub words-read : (d r : List ℕ) (a : ℕ) (ws : List ℕ) → drop a d ≡ wordsBytes ws ++ r → AllWords ws → AreAt d a ws
 unfolding wordsBytes
 words-read d r a [] e h i l = absurd (let z : ⊥ = omega arith in z)
@@ -91,16 +128,19 @@ words-read d r a (w ∷ ws) e h zero l =
     ap (wordIn d) q ∙ word-read d (wordsBytes ws ++ r) a w (e ∙ append-assoc (wordBytes w) (wordsBytes ws) r) (h 0 l)
 words-read d r a (w ∷ ws) e h (suc i) l =
     let q : a + 11 * suc i ≡ a + 11 + 11 * i = omega arith in
-    let next : drop (a + 11) d ≡ wordsBytes ws ++ r =
-    behind d (wordBytes w) (wordsBytes ws ++ r) a 11 (a + 11) (e ∙ append-assoc (wordBytes w) (wordsBytes ws) r) (length-word w) refl in
-    ap (wordIn d) q ∙ words-read d r (a + 11) ws next (λ j k. h (suc j) (omega arith)) i (le-of-suc-le-suc l)
+    ap (wordIn d) q ∙ words-read d r (a + 11) ws (next-word d r a w ws e) (λ j k. h (suc j) (omega arith)) i (le-of-suc-le-suc l)
+
+pub words-there : (d r : List ℕ) (a : ℕ) (ws : List ℕ) → drop a d ≡ wordsBytes ws ++ r → (i : ℕ) → i < length ws → WordAt d (a + 11 * i)
+unfolding wordsBytes
+words-there d r a [] e i l = absurd (let z : ⊥ = omega arith in z)
+words-there d r a (w ∷ ws) e zero l =
+    let q : a ≡ a + 11 * 0 = omega arith in
+    subst (WordAt d) q (word-there d (wordsBytes ws ++ r) a w (e ∙ append-assoc (wordBytes w) (wordsBytes ws) r))
+words-there d r a (w ∷ ws) e (suc i) l =
+    let q : a + 11 + 11 * i ≡ a + 11 * suc i = omega arith in
+    subst (WordAt d) q (words-there d r (a + 11) ws (next-word d r a w ws e) i (le-of-suc-le-suc l))
 
 -- ---- a word read and written
-
--- a sign and ten digits stand at place a
-pub record WordAt (d : List ℕ) (a : ℕ) : Type 0 where
-  pub sign : isSign (getD d a 0) ≡ true
-  pub figures : AllDigits d (a + 1) (a + 11)
 
 true-or-false : (t : Bool) → pick t true false ≡ true → t ≡ true
 true-or-false true e = refl
