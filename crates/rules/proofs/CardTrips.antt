@@ -12,7 +12,8 @@ use Rattle.rules.specs.Words.{pick}
 use Rattle.rules.specs.Cards.{digits, wordsBytes, dataCard, firstCard, numberIn, badFrom, cellsFit, isDataKind, dataOf, firstOf, cardOf}
 use Rattle.rules.specs.declared.Fault.{Fault}
 use Rattle.rules.specs.declared.Card.the-variants.{Data, First, Bad}
-use Rattle.rules.proofs.Digits.{both-true, digits-join, length-digits, AllDigits, number-read, number-written}
+use Rattle.rules.proofs.Tests.{both-first, both-second}
+use Rattle.rules.proofs.Digits.{digits-join, length-digits, AllDigits, number-read, number-written}
 use Rattle.rules.proofs.Fields.{length-data, length-first, length-words, behind, digits-there, words-there, words-read, words-written, AllWords, AreAt}
 use Rattle.rules.proofs.Dues.{none-bad, all-due, front-due, due-front, Fields, fields-due, due-fields}
 
@@ -109,16 +110,16 @@ data-of : (k : ℕ) (t : List ℕ) (m number location n problem size : ℕ) → 
 unfolding dataOf
 data-of k t m number location n problem size g q e =
     let d : List ℕ = k ∷ t in
-    let kinds = both-true (leb 49 k) (leb k 53) g in
     let e₁ = pick-else (ltb (length d) (11 + 11 * m)) _ _ _ bad-data e in
     let e₂ = pick-else (ltb (badFrom m d 1 (11 + 11 * m - 1)) (11 + 11 * m)) _ _ _ bad-data (e₁ .1) in
     let e₃ = pick-then (cellsFit (numberIn d 5 3) m) _ _ _ bad-data (e₂ .1) in
-    let fits = both-true (leb 1 (numberIn d 5 3)) (leb (numberIn d 5 3 + m) 1000) (e₃ .0) in
+    let lowest = both-first (leb 1 (numberIn d 5 3)) (leb (numberIn d 5 3 + m) 1000) (e₃ .0) in
+    let highest = both-second (leb 1 (numberIn d 5 3)) (leb (numberIn d 5 3 + m) 1000) (e₃ .0) in
     let same : m ≡ n = data-words (e₃ .1) in
     let whole : 11 + 11 * m ≤ length d = ltb-false (length d) (11 + 11 * m) (e₁ .0) in
     let good : 1 + (11 + 11 * m - 1) ≤ badFrom m d 1 (11 + 11 * m - 1) = omega (arith, ltb-false (badFrom m d 1 (11 + 11 * m - 1)) (11 + 11 * m) (e₂ .0)) in
-    let low : 49 ≤ k = leb-true 49 k (kinds .0) in
-    let high : k ≤ 53 = leb-true k 53 (kinds .1) in
+    let low : 49 ≤ k = leb-true 49 k (both-first (leb 49 k) (leb k 53) g) in
+    let high : k ≤ 53 = leb-true k 53 (both-second (leb 49 k) (leb k 53) g) in
     record {
       some = omega arith;
       few = omega arith;
@@ -126,8 +127,8 @@ data-of k t m number location n problem size g q e =
       long = sym (data-size (e₃ .1)) ∙ ap (λ (j : ℕ). 11 + 11 * j) same;
       whole = omega (arith, data-size (e₃ .1));
       fields = subst (λ (j : ℕ). Fields j d) same (due-fields m d (λ o i l. all-due m d 1 (11 + 11 * m - 1) good o i (omega arith)));
-      from = omega (arith, leb-true 1 (numberIn d 5 3) (fits .0), data-location (e₃ .1));
-      upto = omega (arith, leb-true (numberIn d 5 3 + m) 1000 (fits .1), data-location (e₃ .1));
+      from = omega (arith, leb-true 1 (numberIn d 5 3) lowest, data-location (e₃ .1));
+      upto = omega (arith, leb-true (numberIn d 5 3 + m) 1000 highest, data-location (e₃ .1));
       numbered = data-number (e₃ .1);
       located = data-location (e₃ .1);
       posed = ap (λ (j : ℕ). numberIn d (8 + 11 * j) 3) (sym same) ∙ data-problem (e₃ .1);
@@ -261,14 +262,15 @@ first-read (k ∷ t) order problem e =
     let e₂ = pick-else (ltb (length d) 7) _ _ _ bad-first (e₁ .1) in
     let e₃ = pick-else (ltb (badFrom 0 d 1 6) 7) _ _ _ bad-first (e₂ .1) in
     let e₄ = pick-then (cellsFit (numberIn d 1 3) 1) _ _ _ bad-first (e₃ .1) in
-    let fits = both-true (leb 1 (numberIn d 1 3)) (leb (numberIn d 1 3 + 1) 1000) (e₄ .0) in
+    let lowest = both-first (leb 1 (numberIn d 1 3)) (leb (numberIn d 1 3 + 1) 1000) (e₄ .0) in
+    let highest = both-second (leb 1 (numberIn d 1 3)) (leb (numberIn d 1 3 + 1) 1000) (e₄ .0) in
     let same : numberIn d 1 3 ≡ order = cc (e₄ .1) in
     record {
       kind = eqb-true k 84 (e₁ .0);
       whole = ltb-false (length d) 7 (e₂ .0);
       figures = due-front 0 d 7 (omega arith) (all-due 0 d 1 6 (ltb-false (badFrom 0 d 1 6) 7 (e₃ .0)));
-      from = omega (arith, leb-true 1 (numberIn d 1 3) (fits .0));
-      upto = omega (arith, leb-true (numberIn d 1 3 + 1) 1000 (fits .1));
+      from = omega (arith, leb-true 1 (numberIn d 1 3) lowest);
+      upto = omega (arith, leb-true (numberIn d 1 3 + 1) 1000 highest);
       ordered = same;
       posed = cc (e₄ .1);
     }

@@ -12,19 +12,8 @@ use lib.Dec.{leb, ltb}
 use lib.ListN.{length, getD, take, drop}
 use lib.Seq.{getD-drop, drop-cons}
 use borrow.Author.Tests.{leb-true, ltb-true, ltb-false}
-use Rattle.rules.specs.Words.{both}
 use Rattle.rules.specs.Cards.{digits, isDigit, numberIn}
-
--- ---- tests
-
-pub both-true : (p q : Bool) → both p q ≡ true → (p ≡ true) × (q ≡ true)
-both-true true q e = (refl, e)
-both-true false q e = (e, cc)
-
-pub digit-bounds : (b : ℕ) → isDigit b ≡ true → (48 ≤ b) × (b ≤ 57)
-digit-bounds b e =
-    let t = both-true (leb 48 b) (leb b 57) e in
-    (leb-true 48 b (t .0), leb-true b 57 (t .1))
+use Rattle.rules.proofs.Tests.{both-first, both-second}
 
 -- ---- powers of ten
 
@@ -114,6 +103,9 @@ number-read d r a n x e h = number-low d r a n x e ∙ mod-eq-of-lt h
 -- the byte at each place from a up to e is a digit
 abbrev pub AllDigits : List ℕ → ℕ → ℕ → Type 0
 AllDigits d a e = (o : ℕ) → a ≤ o → o < e → isDigit (getD d o 0) ≡ true
+
+digit-bounds : (b : ℕ) → isDigit b ≡ true → (48 ≤ b) × (b ≤ 57)
+digit-bounds b e = (leb-true 48 b (both-first (leb 48 b) (leb b 57) e), leb-true b 57 (both-second (leb 48 b) (leb b 57) e))
 
 pub digits-join : (d : List ℕ) (a b e : ℕ) → AllDigits d a b → AllDigits d b e → AllDigits d a e
 digits-join d a b e f g o i l = by-place (ltb o b) refl

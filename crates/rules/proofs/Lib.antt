@@ -1,3 +1,4 @@
+pub mod Tests
 pub mod Digits
 pub mod Fields
 pub mod Dues
