@@ -6,3 +6,4 @@ pub mod Undone
 pub mod Counting
 pub mod Rounding
 pub mod Reckoning
+pub mod Cards

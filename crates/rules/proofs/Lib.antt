@@ -8,3 +8,7 @@ pub mod Rounding
 pub mod Roots
 pub mod Fractions
 pub mod Sums
+pub mod Digits
+pub mod Fields
+pub mod Dues
+pub mod CardTrips

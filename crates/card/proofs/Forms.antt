@@ -1,0 +1,107 @@
+-- What is read of a card, by its form and by each test on the way. Assumes nothing.
+use mathlib.Core.Path.{_≡_, refl, sym, ap, _∙_}
+use mathlib.Core.List.{List, [], _∷_}
+use mathlib.Core.Bool.{Bool, true, false}
+use Prim.Native.Nat.{ℕ, _+_, _-_, _*_, _≤_, _<_}
+use native.Mathlib.Omega.{arith}
+use lib.Dec.{leb, eqb}
+use lib.ListN.{length, getD}
+use borrow.Author.Tests.{lt-ltb, le-ltb, leb-true, eq-eqb, ne-eqb}
+use Rattle.rules.specs.Words.{pick}
+use Rattle.rules.specs.Cards.{numberIn, badFrom, cellsFit, wholeCard, dataOf, firstOf, isDataKind, cardOf}
+use Rattle.rules.specs.declared.Fault.the-variants.{UnknownKind, CutShort, BadByte, BadPlace}
+use Rattle.rules.specs.declared.Card.{Card}
+use Rattle.rules.specs.declared.Card.the-variants.{Data, First, Bad, End}
+use Rattle.rules.proofs.Tests.{both-second}
+use Rattle.card.specs.declared.fields.Form.{Form}
+use Rattle.card.specs.Forms.{dataForm, firstForm, noForm, formOf}
+
+-- a card of the form f and the kind k, if it has no fault
+abbrev cardIn : ℕ → Form → List ℕ → Card
+cardIn k f d =
+    pick (eqb k 84) (First (numberIn d (f .place) 3) (numberIn d 4 3))
+    (Data (numberIn d 1 4) (numberIn d (f .place) 3) (f .words) (numberIn d (8 + 11 * f .words) 3) (f .size))
+
+abbrev formed : ℕ → Form → List ℕ → Card
+formed k f d =
+    wholeCard (f .words) (f .size) d
+    (pick (cellsFit (numberIn d (f .place) 3) (f .cells)) (cardIn k f d) (Bad (BadPlace (f .place))))
+
+of-kind : (k : ℕ) (t : List ℕ) → (formOf k .size ≡ 0 → ⊥) → cardOf (k ∷ t) ≡ formed k (formOf k) (k ∷ t)
+unfolding formOf cardOf dataOf firstOf
+of-kind k t = by-kind (isDataKind k) refl
+  where
+    d : List ℕ
+    d = k ∷ t
+
+    others : (s : Bool) → eqb k 84 ≡ s → (pick s firstForm noForm .size ≡ 0 → ⊥)
+        → pick s (firstOf d) (Bad UnknownKind) ≡ formed k (pick s firstForm noForm) d
+    others true e h = simp e
+    others false e h = absurd (h refl)
+
+    by-kind : (s : Bool) → isDataKind k ≡ s → (pick s (dataForm (k - 48)) (pick (eqb k 84) firstForm noForm) .size ≡ 0 → ⊥)
+        → pick s (dataOf (k - 48) d) (pick (eqb k 84) (firstOf d) (Bad UnknownKind)) ≡ formed k (pick s (dataForm (k - 48)) (pick (eqb k 84) firstForm noForm)) d
+    by-kind true e h =
+        let l = leb-true k 53 (both-second (leb 49 k) (leb k 53) e) in
+        simp (ne-eqb k 84 (λ z. omega arith))
+    by-kind false e h = others (eqb k 84) refl h
+
+-- each test on the way, for bytes d whose first is of the form f
+pub card-none : (d : List ℕ) → length d ≡ 0 → cardOf d ≡ End
+unfolding cardOf
+card-none [] h = refl
+card-none (k ∷ t) h = absurd (let z : ⊥ = omega arith in z)
+
+of-no-kind : (k : ℕ) (t : List ℕ) → formOf k .size ≡ 0 → cardOf (k ∷ t) ≡ Bad UnknownKind
+unfolding formOf cardOf
+of-no-kind k t = by-kind (isDataKind k)
+  where
+    others : (s : Bool) → pick s firstForm noForm .size ≡ 0 → pick s (firstOf (k ∷ t)) (Bad UnknownKind) ≡ Bad UnknownKind
+    others true h = absurd (let z : ⊥ = omega arith in z)
+    others false h = refl
+
+    by-kind : (s : Bool) → pick s (dataForm (k - 48)) (pick (eqb k 84) firstForm noForm) .size ≡ 0
+        → pick s (dataOf (k - 48) (k ∷ t)) (pick (eqb k 84) (firstOf (k ∷ t)) (Bad UnknownKind)) ≡ Bad UnknownKind
+    by-kind true h = absurd (let z : ⊥ = omega arith in z)
+    by-kind false h = others (eqb k 84) h
+
+by-first : (P : ℕ → List ℕ → Type 0) → ((k : ℕ) (t : List ℕ) → P k (k ∷ t)) → (d : List ℕ) → (length d ≡ 0 → ⊥) → P (getD d 0 0) d
+by-first P h [] some = absurd (some refl)
+by-first P h (k ∷ t) some = h k t
+
+module _ (d : List ℕ) (some : length d ≡ 0 → ⊥) (f : Form) (q : f ≡ formOf (getD d 0 0)) where
+  pub card-unknown : f .size ≡ 0 → cardOf d ≡ Bad UnknownKind
+  card-unknown h =
+      by-first (λ (k : ℕ) (e : List ℕ). formOf k .size ≡ 0 → cardOf e ≡ Bad UnknownKind) of-no-kind d some
+      (sym (ap (λ (g : Form). g .size) q) ∙ h)
+
+  module _ (known : f .size ≡ 0 → ⊥) where
+    card-formed : cardOf d ≡ formed (getD d 0 0) f d
+    card-formed =
+        by-first (λ (k : ℕ) (e : List ℕ). (formOf k .size ≡ 0 → ⊥) → cardOf e ≡ formed k (formOf k) e) of-kind d some
+        (λ h. known (ap (λ (g : Form). g .size) q ∙ h))
+        ∙ ap (λ (g : Form). formed (getD d 0 0) g d) (sym q)
+
+    pub card-cut : length d < f .size → cardOf d ≡ Bad CutShort
+    card-cut h = card-formed ∙ simp (lt-ltb (length d) (f .size) h)
+
+    module _ (whole : f .size ≤ length d) where
+      pub card-byte : (b : ℕ) → b ≡ badFrom (f .words) d 1 (f .size - 1) → b < f .size → cardOf d ≡ Bad (BadByte b)
+      card-byte b e h =
+          card-formed
+          ∙ simp (le-ltb (length d) (f .size) whole, ← e, lt-ltb b (f .size) h)
+
+      module _ (b : ℕ) (e : b ≡ badFrom (f .words) d 1 (f .size - 1)) (due : f .size ≤ b) where
+        pub card-place : cellsFit (numberIn d (f .place) 3) (f .cells) ≡ false → cardOf d ≡ Bad (BadPlace (f .place))
+        card-place h = card-formed ∙ simp (le-ltb (length d) (f .size) whole, ← e, le-ltb b (f .size) due, h)
+
+        module _ (fits : cellsFit (numberIn d (f .place) 3) (f .cells) ≡ true) where
+          card-good : cardOf d ≡ cardIn (getD d 0 0) f d
+          card-good = card-formed ∙ simp (le-ltb (length d) (f .size) whole, ← e, le-ltb b (f .size) due, fits)
+
+          pub card-first : getD d 0 0 ≡ 84 → cardOf d ≡ First (numberIn d (f .place) 3) (numberIn d 4 3)
+          card-first h = card-good ∙ simp (eq-eqb (getD d 0 0) 84 h)
+
+          pub card-data : (getD d 0 0 ≡ 84 → ⊥)
+              → cardOf d ≡ Data (numberIn d 1 4) (numberIn d (f .place) 3) (f .words) (numberIn d (8 + 11 * f .words) 3) (f .size)
+          card-data h = card-good ∙ simp (ne-eqb (getD d 0 0) 84 h)

@@ -1,0 +1,17 @@
+-- `card::cells_fit` meets its contract: its two tests are those of the definition. Assumes nothing.
+use borrow.Author.Needs.{needs}
+use borrow.Author.Tests.{lt-leb, le-leb}
+use Rattle.card.proofs.fields.cells_fit.Statement.{statement}
+use Rattle.card.proofs.fields.cells_fit.Tie as tie
+
+returns : tie.Need-returns
+returns c = simp (lt-leb 1 _ (c .if1 .taken))
+
+add-result : tie.Need-add-result
+add-result c = search needs
+
+returns-2 : tie.Need-returns-2
+returns-2 c = simp (le-leb 1 _ (c .if1 .left))
+
+pub cells-fit-spec : {M : Type 1} → statement M
+cells-fit-spec = tie.close (tie.spec returns add-result returns-2)
