@@ -1,3 +1,4 @@
 pub mod Shown
 pub mod Loops
 pub mod Tracings
+pub mod Rows

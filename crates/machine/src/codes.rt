@@ -1157,16 +1157,25 @@ fn slot_of(w: u64) -> usize
     1000 + o1
 }
 
-// What the order w is, in this mode: in traced mode PCH is NOOP.
+// The slot of the order w as it is done in this mode: in traced mode PCH is NOOP.
+fn slot_done(state: State, w: u64) -> usize
+    ensures { λ r. ⌜ (codeOf r ≡ codeDone state w) × (r < 1011) ⌝ }
+{
+    let slot = slot_of(w);
+    if state.mode == 1 {
+        if slot == 410 {
+            return 454;
+        }
+        return slot;
+    }
+    slot
+}
+
+// What the order w is.
 pub fn look_up(state: State, w: u64) -> Built
     ensures { λ r. ⌜ r ≡ lookup (codeDone state w) codes ⌝ }
 {
-    let mut slot = slot_of(w);
-    if state.mode == 1 {
-        if slot == 410 {
-            slot = 454;
-        }
-    }
+    let slot = slot_done(state, w);
     let row = row_at(slot);
     if row == 0 {
         return Built::No;

@@ -1,7 +1,7 @@
+pub mod Tests
 pub mod Views
 pub mod Undone
 pub mod Growth
-pub mod Tests
 pub mod Words
 pub mod Nearest
 pub mod Rounding

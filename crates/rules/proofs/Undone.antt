@@ -4,7 +4,6 @@ use Prim.Native.Nat.{ℕ, _+_, _-_}
 use mathlib.Core.Path.{_≡_, refl, sym, ap, _∙_}
 use mathlib.Core.Logic.{_⊎_, inl, inr}
 use mathlib.Core.Bool.{Bool, true, false}
-use native.Mathlib.Omega.{arith}
 use lib.Dec.{eqb, leb}
 use lib.ListN.{length}
 use Rattle.rules.specs.Words.{pick, both, aIn, bIn, cIn}
@@ -30,56 +29,53 @@ use Rattle.rules.specs.declared.Operation.{Operation}
 use Rattle.rules.specs.declared.Operation.the-variants.{Reckon, Move, Go, Loop, Change, Read, Pch, Trace}
 use Rattle.rules.specs.declared.Going.{Going}
 use Rattle.rules.specs.declared.Going.the-variants.{UncStop, CondStop, TrSgn, TrExp, Tr, TrSubr, Noop}
+use Rattle.rules.proofs.Tests.{false-true}
 
 -- if the order is to be tried again, the machine is as it was
 abbrev pub Stays : Machine → Answer → Type 0
 Stays m x = triesAgain (x .outcome) ≡ true → x .machine ≡ m
-
--- it is not to be tried again
-not-again : {A : Type 0} → false ≡ true → A
-not-again e = let z : _≡_ {A = ℕ} 0 1 = cc in let y : ⊥ = omega arith in absurd y
 
 pick-stays : (m : Machine) (t : Bool) (x y : Answer) → Stays m x → Stays m y → Stays m (pick t x y)
 pick-stays m true x y p q = p
 pick-stays m false x y p q = q
 
 reckoned-stays : (m : Machine) (c : ℕ) (r : Reckoned) → Stays m (reckoned m c r)
-reckoned-stays m c (Result w) = not-again
+reckoned-stays m c (Result w) = false-true
 reckoned-stays m c (Refused r) = λ e. refl
 
 cond-stays : (t : Bool) (m : Machine) (b c : ℕ) → Stays m (condStopped t m b c)
-cond-stays true m b c = not-again
-cond-stays false m b c = not-again
+cond-stays true m b c = false-true
+cond-stays false m b c = false-true
 
 read-stays : (i : Inputs) (m : Machine) (j : Judged) → Stays m (read i m j)
-read-stays i m (Fits end) = not-again
+read-stays i m (Fits end) = false-true
 read-stays i m (Fails r) = λ e. refl
 
 punched-stays : (i : Inputs) (m : Machine) (b n : ℕ) → Stays m (punched i m b n)
 unfolding punched
 punched-stays i m b n =
-    pick-stays m (leb (length (m .sent) + punchSize n) (i .room)) (done (onward (cardsPunched n m b n))) (undone NoRoom m) not-again (λ e. refl)
+    pick-stays m (leb (length (m .sent) + punchSize n) (i .room)) (done (onward (cardsPunched n m b n))) (undone NoRoom m) false-true (λ e. refl)
 
 gone-stays : (i : Inputs) (m : Machine) (g : Going) (b c : ℕ) → Stays m (gone i m g b c)
 unfolding gone
 gone-stays i m UncStop b c = λ e. refl
 gone-stays i m CondStop b c = cond-stays (i .stop) m b c
-gone-stays i m TrSgn b c = not-again
-gone-stays i m TrExp b c = not-again
-gone-stays i m Tr b c = not-again
-gone-stays i m TrSubr b c = not-again
-gone-stays i m Noop b c = not-again
+gone-stays i m TrSgn b c = false-true
+gone-stays i m TrExp b c = false-true
+gone-stays i m Tr b c = false-true
+gone-stays i m TrSubr b c = false-true
+gone-stays i m Noop b c = false-true
 
 pub performed-stays : (i : Inputs) (m : Machine) (o : Operation) (a b c : ℕ) → Stays m (performed i m o a b c)
 unfolding performed
 performed-stays i m (Reckon r) a b c = reckoned-stays m c (reckonedBy r (wordAt (m .cells) a) (wordAt (m .cells) b))
-performed-stays i m Move a b c = not-again
+performed-stays i m Move a b c = false-true
 performed-stays i m (Go g) a b c = gone-stays i m g b c
-performed-stays i m (Loop x y z) a b c = not-again
-performed-stays i m (Change k x) a b c = not-again
+performed-stays i m (Loop x y z) a b c = false-true
+performed-stays i m (Change k x) a b c = false-true
 performed-stays i m Read a b c = read-stays i m (judgedFrom 1000 (i .deck) (m .state .reader) b c)
 performed-stays i m Pch a b c = punched-stays i m b (c + 1 - b)
-performed-stays i m (Trace t) a b c = not-again
+performed-stays i m (Trace t) a b c = false-true
 
 allowed-stays : (i : Inputs) (m : Machine) (o : Operation) (a b c : ℕ) (k : Checked) → Stays m (allowed i m o a b c k)
 allowed-stays i m o a b c Passes = performed-stays i m o a b c

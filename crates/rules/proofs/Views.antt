@@ -12,16 +12,7 @@ use Rattle.rules.specs.Words.{both}
 use Rattle.rules.specs.Drum.{cellOf, view, cellAt, store, markOf, marksOf, numberOver, overlay, marksFit, wordsFit, drumFits}
 use Rattle.rules.specs.declared.Cell.{Cell}
 use Rattle.rules.specs.declared.Cell.the-variants.{Foreign, Owned}
-
--- ---- two tests together
-
-pub both-left : (a b : Bool) → both a b ≡ true → a ≡ true
-both-left true b e = refl
-both-left false b e = e
-
-pub both-right : (a b : Bool) → both a b ≡ true → b ≡ true
-both-right true b e = e
-both-right false b e = let z : _≡_ {A = ℕ} 0 1 = cc in let y : ⊥ = omega arith in absurd y
+use Rattle.rules.proofs.Tests.{both-first, both-second}
 
 -- ---- lengths
 
@@ -53,7 +44,7 @@ marks-view [] [] e h = refl
 marks-view [] (m ∷ ms) e h = let z : ⊥ = omega arith in absurd z
 marks-view (d ∷ ds) [] e h = let z : ⊥ = omega arith in absurd z
 marks-view (d ∷ ds) (m ∷ ms) e h =
-    simp (mark-again m d (leb-true m 1 (both-left (leb m 1) (marksFit ms) h)), marks-view ds ms (suc-inj e) (both-right (leb m 1) (marksFit ms) h))
+    simp (mark-again m d (leb-true m 1 (both-first (leb m 1) (marksFit ms) h)), marks-view ds ms (suc-inj e) (both-second (leb m 1) (marksFit ms) h))
 
 -- ---- what check 10 tells of the lent drum and marks
 
@@ -68,13 +59,13 @@ unfolding drumFits
 fit drum marks e =
     let sizes : Bool = both (eqb (length drum) 1000) (eqb (length marks) 1000) in
     let words : Bool = both (marksFit marks) (wordsFit (view drum marks)) in
-    let l : sizes ≡ true = both-left sizes words e in
-    let r : words ≡ true = both-right sizes words e in
+    let l : sizes ≡ true = both-first sizes words e in
+    let r : words ≡ true = both-second sizes words e in
     record {
-      drum-long = eqb-true (length drum) 1000 (both-left (eqb (length drum) 1000) (eqb (length marks) 1000) l);
-      marks-long = eqb-true (length marks) 1000 (both-right (eqb (length drum) 1000) (eqb (length marks) 1000) l);
-      marks-fit = both-left (marksFit marks) (wordsFit (view drum marks)) r;
-      words-fit = both-right (marksFit marks) (wordsFit (view drum marks)) r;
+      drum-long = eqb-true (length drum) 1000 (both-first (eqb (length drum) 1000) (eqb (length marks) 1000) l);
+      marks-long = eqb-true (length marks) 1000 (both-second (eqb (length drum) 1000) (eqb (length marks) 1000) l);
+      marks-fit = both-first (marksFit marks) (wordsFit (view drum marks)) r;
+      words-fit = both-second (marksFit marks) (wordsFit (view drum marks)) r;
     }
 
 pub marks-again : (drum marks : List ℕ) → Fit drum marks → marksOf (view drum marks) ≡ marks
