@@ -12,3 +12,4 @@ pub mod Digits
 pub mod Fields
 pub mod Dues
 pub mod CardTrips
+pub mod Results
