@@ -1,0 +1,4 @@
+mod Steps
+mod Newton
+mod Sums
+mod Results
