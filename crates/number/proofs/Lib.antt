@@ -1,4 +1,4 @@
-mod Steps
+mod Units
 mod Newton
-mod Sums
-mod Results
+mod Aligning
+mod Sizes

@@ -1,4 +1,4 @@
--- `number::times` meets its contract: the product of two times eight digits is exact in 64 bits. Assumes nothing.
+-- `number::products::times` meets its contract: the product of two times eight digits is exact in 64 bits. Assumes nothing.
 use Prim.Native.Nat.{_+_, _*_, _≤_}
 use mathlib.Core.Path.{sym}
 use native.Mathlib.Omega.{arith}
@@ -6,11 +6,11 @@ use Rattle.rules.specs.Words.{leadingIn, exponentIn}
 use Rattle.rules.specs.Rounding.{productOf}
 use Rattle.rules.proofs.Fractions.{whole-halves}
 use Rattle.rules.proofs.Words.{number-leading}
-use Rattle.number.proofs.Results.{product-most, product-least}
-use Rattle.number.proofs.Sums.{none}
+use Rattle.number.proofs.Sizes.{product-most, product-least}
+use Rattle.number.proofs.Aligning.{none}
 use borrow.Author.Needs.{needs}
-use Rattle.number.proofs.times.Statement.{statement}
-use Rattle.number.proofs.times.Tie as tie
+use Rattle.number.proofs.products.times.Statement.{statement}
+use Rattle.number.proofs.products.times.Tie as tie
 
 mul-p : tie.Need-mul-p
 mul-p c = omega (arith, product-most (c .args .a) (c .args .b))

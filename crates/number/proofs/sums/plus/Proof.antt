@@ -1,4 +1,4 @@
--- `number::plus` meets its contract: a sum is the same in either order, so the number of the larger exponent may stand first.
+-- `number::sums::plus` meets its contract: a sum is the same in either order, so the number of the larger exponent may stand first.
 -- Assumes nothing.
 use Prim.Native.Nat.{ℕ, _≤_}
 use mathlib.Core.Path.{_≡_, ap, _∙_}
@@ -11,8 +11,8 @@ use Rattle.rules.proofs.Sums.{sum-swaps}
 use Rattle.rules.proofs.Words.{number-full, number-word}
 use Rattle.number.specs.Asked.{Aligned}
 use borrow.Author.Needs.{needs}
-use Rattle.number.proofs.plus.Statement.{statement}
-use Rattle.number.proofs.plus.Tie as tie
+use Rattle.number.proofs.sums.plus.Statement.{statement}
+use Rattle.number.proofs.sums.plus.Tie as tie
 
 taken-apart : (a b s t : ℕ) → isNumber a ≡ true → s ≤ 1 → t ≤ 1 → exponentIn b ≤ exponentIn a → Aligned s (leadingIn a) (exponentIn a) t (leadingIn b) (exponentIn b)
 taken-apart a b s t na ls lt order =

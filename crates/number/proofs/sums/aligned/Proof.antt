@@ -1,13 +1,13 @@
--- `number::aligned` meets its contract: ten places apart the first number is the answer, and nearer the whole sum fits 64 bits.
+-- `number::sums::aligned` meets its contract: ten places apart the first number is the answer, and nearer the whole sum fits 64 bits.
 -- Assumes nothing.
 use Prim.Native.Nat.{_*_, _≤_}
 use mathlib.Core.Path.{ap, _∙_}
 use native.Mathlib.Omega.{arith}
 use Rattle.rules.specs.Arithmetic.{wordOf}
-use Rattle.number.proofs.Sums.{far, few, same, first, second}
+use Rattle.number.proofs.Aligning.{far, few, same, first, second}
 use borrow.Author.Needs.{needs}
-use Rattle.number.proofs.aligned.Statement.{statement}
-use Rattle.number.proofs.aligned.Tie as tie
+use Rattle.number.proofs.sums.aligned.Statement.{statement}
+use Rattle.number.proofs.sums.aligned.Tie as tie
 
 sub-apart : tie.Need-sub-apart
 sub-apart c = search needs

@@ -1,4 +1,4 @@
--- `number::settle` meets its contract: the loop goes up from a unit of which there are too many, so it ends at the one that is right.
+-- `number::rounding::settle` meets its contract: the loop goes up from a unit of which there are too many, so it ends at the one that is right.
 -- Assumes nothing.
 use Prim.Native.Nat.{_-_, _^_}
 use mathlib.Core.Path.{_≡_, sym, ap, _∙_}
@@ -8,9 +8,9 @@ use borrow.Author.Needs.{needs}
 use Rattle.rules.specs.Arithmetic.{wordOf}
 use Rattle.rules.proofs.Nearest.{ten-above}
 use Rattle.digits.proofs.Powers.{in-table}
-use Rattle.number.proofs.Steps.{Unit, next, low, eight-digits, settles}
-use Rattle.number.proofs.settle.Statement.{statement}
-use Rattle.number.proofs.settle.Tie as tie
+use Rattle.number.proofs.Units.{Unit, next, low, eight-digits, settles}
+use Rattle.number.proofs.rounding.settle.Statement.{statement}
+use Rattle.number.proofs.rounding.settle.Tie as tie
 
 abbrev Inv-loop : tie.InvT-loop
 Inv-loop s h k j u₀ e₀ u e = Unit h u e

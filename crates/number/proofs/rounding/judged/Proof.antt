@@ -1,12 +1,12 @@
--- `number::judged` meets its contract: the word is made as the definition makes it, and its exponent judged by the same two tests.
+-- `number::rounding::judged` meets its contract: the word is made as the definition makes it, and its exponent judged by the same two tests.
 -- Assumes nothing.
 use mathlib.Core.Path.{sym, ap}
 use Rattle.rules.specs.Rounding.{single}
 use Rattle.rules.specs.Arithmetic.{wordOf}
 use Rattle.rules.proofs.Rounding.{placed-within, placed-below, placed-above}
 use borrow.Author.Needs.{needs}
-use Rattle.number.proofs.judged.Statement.{statement}
-use Rattle.number.proofs.judged.Tie as tie
+use Rattle.number.proofs.rounding.judged.Statement.{statement}
+use Rattle.number.proofs.rounding.judged.Tie as tie
 
 returns : tie.Need-returns
 returns c =

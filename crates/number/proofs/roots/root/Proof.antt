@@ -1,4 +1,4 @@
--- `number::root` meets its contract: seven or eight places moved up leave an even power of ten. Assumes nothing.
+-- `number::roots::root` meets its contract: seven or eight places moved up leave an even power of ten. Assumes nothing.
 use Prim.Native.Nat.{ℕ, _+_, _*_, _/_, _^_, _<_}
 use mathlib.Core.Path.{_≡_, refl, sym, ap, subst, _∙_}
 use native.Mathlib.Omega.{arith}
@@ -7,10 +7,10 @@ use Rattle.rules.specs.Rounding.{single, settled, grown, rootBelow, rootHalves,
 use Rattle.rules.specs.Arithmetic.{valueIn, wordOf}
 use Rattle.rules.specs.declared.Reckoned.the-variants.{Result}
 use Rattle.rules.proofs.Words.{Full, number-full}
-use Rattle.number.proofs.Results.{moved}
+use Rattle.number.proofs.Sizes.{moved}
 use borrow.Author.Needs.{needs}
-use Rattle.number.proofs.root.Statement.{statement}
-use Rattle.number.proofs.root.Tie as tie
+use Rattle.number.proofs.roots.root.Statement.{statement}
+use Rattle.number.proofs.roots.root.Tie as tie
 
 -- the digits of b, moved up by i places
 raised : (b i j : ℕ) → b < 10 ^ 10 → exponentIn b + 57 + 200 ≡ i + (j + j) → wordOf (settled single 0 (rootHalves single (b / 100 * 10 ^ i * 10 ^ (j + j)))) ≡ wordOf (rootOf single (valueIn b))

@@ -1,11 +1,11 @@
--- `number::root_below` meets its contract: no guess is below the root, and one whose square is too large gives a smaller one.
+-- `number::roots::root_below` meets its contract: no guess is below the root, and one whose square is too large gives a smaller one.
 -- Assumes nothing.
 use Prim.Native.Nat.{_+_, _*_, _≤_, _<_}
 use native.Mathlib.Nat.{mul-le-mul, div-le-self}
 use native.Mathlib.Omega.{arith}
 use Rattle.number.proofs.Newton.{not-below, above-zero, smaller}
-use Rattle.number.proofs.root_below.Statement.{statement}
-use Rattle.number.proofs.root_below.Tie as tie
+use Rattle.number.proofs.roots.root_below.Statement.{statement}
+use Rattle.number.proofs.roots.root_below.Tie as tie
 
 abbrev Inv-loop : tie.InvT-loop
 Inv-loop n r₀ r = (n < (r + 1) * (r + 1)) × (r ≤ 250000000)

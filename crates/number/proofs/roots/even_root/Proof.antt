@@ -1,10 +1,10 @@
--- `number::even_root` meets its contract: the root of the whole, cut to the digits above the even power, is the root of n cut, and has
+-- `number::roots::even_root` meets its contract: the root of the whole, cut to the digits above the even power, is the root of n cut, and has
 -- eight digits. Assumes nothing.
 use native.Mathlib.Omega.{arith}
-use Rattle.number.proofs.Results.{root-least, root-most, root-is}
+use Rattle.number.proofs.Sizes.{root-least, root-most, root-is}
 use borrow.Author.Needs.{needs}
-use Rattle.number.proofs.even_root.Statement.{statement}
-use Rattle.number.proofs.even_root.Tie as tie
+use Rattle.number.proofs.roots.even_root.Statement.{statement}
+use Rattle.number.proofs.roots.even_root.Tie as tie
 
 mul-root-below : tie.Need-mul-root-below
 mul-root-below c = search needs

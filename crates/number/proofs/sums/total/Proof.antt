@@ -1,11 +1,11 @@
--- `number::total` meets its contract: the units are whole, so their halves are exact, and in units 10^7 times finer they are as well.
+-- `number::sums::total` meets its contract: the units are whole, so their halves are exact, and in units 10^7 times finer they are as well.
 -- Assumes nothing.
 use mathlib.Core.Path.{sym}
-use Rattle.number.proofs.Sums.{none, finer}
+use Rattle.number.proofs.Aligning.{none, finer}
 use Rattle.rules.proofs.Fractions.{whole-halves}
 use borrow.Author.Needs.{needs}
-use Rattle.number.proofs.total.Statement.{statement}
-use Rattle.number.proofs.total.Tie as tie
+use Rattle.number.proofs.sums.total.Statement.{statement}
+use Rattle.number.proofs.sums.total.Tie as tie
 
 returns : tie.Need-returns
 returns c = sym (none (c .before .args .s) (c .before .args .v) (c .before .args .j) (c .if1 .taken))

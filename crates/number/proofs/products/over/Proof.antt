@@ -1,4 +1,4 @@
--- `number::over` meets its contract: a quotient cut at its ninth digit or below has the halves that rounding asks for.
+-- `number::products::over` meets its contract: a quotient cut at its ninth digit or below has the halves that rounding asks for.
 -- Assumes nothing.
 use Prim.Native.Nat.{ℕ, _+_, _*_, _^_}
 use mathlib.Core.Path.{_≡_, sym, ap, _∙_}
@@ -10,10 +10,10 @@ use Rattle.rules.specs.Arithmetic.{wordOf}
 use Rattle.rules.proofs.Fractions.{none-halves}
 use Rattle.rules.proofs.Rounding.{settled-none}
 use Rattle.rules.proofs.Words.{Full, number-full}
-use Rattle.number.proofs.Results.{quotient-least, quotient-is}
+use Rattle.number.proofs.Sizes.{quotient-least, quotient-is}
 use borrow.Author.Needs.{needs}
-use Rattle.number.proofs.over.Statement.{statement}
-use Rattle.number.proofs.over.Tie as tie
+use Rattle.number.proofs.products.over.Statement.{statement}
+use Rattle.number.proofs.products.over.Tie as tie
 
 returns : tie.Need-returns
 unfolding quotientOf
