@@ -1,12 +1,16 @@
 -- The halves of a product and of a quotient, from a place up: a power of ten that both have cancels. Assumes nothing.
 use Prim.Native.Nat.{ℕ, _+_, _*_, _/_, _^_}
 use mathlib.Core.Path.{_≡_, sym, ap, subst, _∙_}
-use native.Mathlib.Nat.{mul-assoc, mul-div-cancel, mul-div-mul-right, div-one, div-div-eq-div-mul}
+use native.Mathlib.Nat.{mul-assoc, mul-div-cancel, mul-div-mul-right, div-one, zero-div, div-div-eq-div-mul}
 use lib.Pow.{pow-add}
 use Rattle.rules.specs.Rounding.{Form, fraction, placed, settled}
 use Rattle.rules.specs.Rounded.{Rounded}
 use Rattle.rules.proofs.Nearest.{ten-above}
 use Rattle.rules.proofs.Rounding.{settled-is}
+
+-- of nothing
+pub none-halves : (p q : ℕ) → p ≡ 0 → fraction p q ≡ 0
+none-halves p q z = ap (λ (t : ℕ). 2 * t / q) z ∙ zero-div q
 
 -- of a whole number p times 10 ^ j
 pub whole-halves : (p j : ℕ) → fraction (p * 10 ^ j) 1 / 10 ^ j ≡ 2 * p

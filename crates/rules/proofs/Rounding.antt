@@ -12,7 +12,7 @@ use borrow.Author.Tests.{leb-true, ltb-true, eq-eqb, ne-eqb, le-leb, lt-leb, lt-
 use Rattle.rules.specs.Words.{pick}
 use Rattle.rules.specs.Rounding.{Form, nought, value, outside, nearest, placeIn, placed, settled}
 use Rattle.rules.specs.Rounded.{Rounded}
-use Rattle.rules.proofs.Nearest.{ten-above, nearest-not-passed, nearest-is, Right, place-right, place-beyond, right-place}
+use Rattle.rules.proofs.Nearest.{ten-above, nearest-reached, nearest-not-passed, nearest-is, Right, place-right, place-beyond, right-place}
 
 -- What is nearest and at the right place is rounded, and the other way round.
 
@@ -42,6 +42,12 @@ module _ (d h e m : ℕ) (r : Rounded d h (10 ^ e) m) where
 
   pub rounded-some : 0 < h
   rounded-some = omega (arith, r .full, ten-above e, mul-le-mul-right (10 ^ e) (ten-above d))
+
+-- a unit of which there are fewer than 10 ^ d, rounded, and of whose tenth there are not
+pub unit-rounded : (d h e : ℕ) → 2 * (10 ^ d * 10 ^ e) ≤ 10 * h + 10 ^ e → h + 10 ^ e < 2 * (10 ^ d * 10 ^ e) → Rounded d h (10 ^ e) (nearest h e)
+unit-rounded d h e full few =
+    let l : nearest h e * 10 ^ e < 10 ^ d * 10 ^ e = omega (arith, nearest-reached h e) in
+    record { reached = nearest-reached h e; notPassed = nearest-not-passed h e; fits = lt-of-mul-lt-mul-right (10 ^ e) l; full = full }
 
 -- Digits below a place do not matter, if those above it are enough.
 pub lift : (d h c u m : ℕ) → 0 < c → Rounded d (h / c) u m → Rounded d h (u * c) m

@@ -31,6 +31,10 @@ number-word w h = by-zero (eqb w 0) refl
     by-zero true t = let z : w ≡ 0 = eqb-true w 0 t in omega arith
     by-zero false t = number-full w h (eqb-false w 0 t) .word
 
+-- its first eight digits are all 0, or the first of them is not
+pub number-leading : (w : ℕ) → isNumber w ≡ true → (leadingIn w ≡ 0 → ⊥) → 10000000 ≤ leadingIn w
+number-leading w h some = number-full w h (λ z. some (omega arith)) .leading
+
 -- the definition of a root has the room for every number's
 pub root-room : (n i : ℕ) → n ≤ 10 ^ 16 → i ≤ 356 → 4 * (n * 10 ^ i) < 4 ^ 700
 root-room n i few low = lt-of-le-of-lt (mul-le-mul-left 4 (mul-le-mul few (ten-rises low))) (lit< tt)

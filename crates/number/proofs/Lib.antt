@@ -1,0 +1,4 @@
+mod Units
+mod Newton
+mod Aligning
+mod Sizes

@@ -1,0 +1,75 @@
+-- `number::products::over` meets its contract: a quotient cut at its ninth digit or below has the halves that rounding asks for.
+-- Assumes nothing.
+use Prim.Native.Nat.{ℕ, _+_, _*_, _^_}
+use mathlib.Core.Path.{_≡_, sym, ap, _∙_}
+use native.Mathlib.Nat.{div-le-self, zero-mul}
+use native.Mathlib.Omega.{arith}
+use Rattle.rules.specs.Words.{leadingIn, exponentIn}
+use Rattle.rules.specs.Rounding.{single, quotientOf}
+use Rattle.rules.specs.Arithmetic.{wordOf}
+use Rattle.rules.proofs.Fractions.{none-halves}
+use Rattle.rules.proofs.Rounding.{settled-none}
+use Rattle.rules.proofs.Words.{Full, number-full}
+use Rattle.number.proofs.Sizes.{quotient-least, quotient-is}
+use borrow.Author.Needs.{needs}
+use Rattle.number.proofs.products.over.Statement.{statement}
+use Rattle.number.proofs.products.over.Tie as tie
+
+returns : tie.Need-returns
+unfolding quotientOf
+returns c =
+    let a = c .before .args in
+    let z : leadingIn (a .a) ≡ 0 = omega (arith, c .if1 .taken) in
+    sym (ap wordOf (settled-none single (a .s) _ (none-halves _ _ (ap (λ (t : ℕ). t * 10 ^ (exponentIn (a .a) + 57 + 100)) z ∙ zero-mul _))))
+
+mul-settle : tie.Need-mul-settle
+mul-settle c = search needs
+
+mul-settle-2 : tie.Need-mul-settle-2
+mul-settle-2 c = search needs
+
+divisor : (c : tie.Else1) → Full (c .before .args .b)
+divisor c = number-full (c .before .args .b) (c .before .pre .2) (λ z. omega (arith, c .before .pre .3))
+
+div-settle : tie.Need-div-settle
+div-settle c = omega (arith, divisor c .leading)
+
+add-settle : tie.Need-add-settle
+add-settle c = search needs
+
+sub-settle : tie.Need-sub-settle
+sub-settle c = search needs
+
+settle-requires : tie.Need-settle-requires
+settle-requires c κs =
+    let a = c .before .args in
+    let p = c .before .pre in
+    let f : Full (a .a) = number-full (a .a) (p .1) (c .if1 .left) in
+    let m : ℕ = leadingIn (a .a) in
+    let n : ℕ = leadingIn (a .b) in
+    record {
+      sign = p .0;
+      few = omega (arith, div-le-self (2 * (m * 100000000)) n);
+      start = omega arith;
+      place = omega arith;
+      full = omega (arith, quotient-least m n (f .leading) (divisor c .leading) (omega arith));
+    }
+
+returns-2 : tie.Need-returns-2
+unfolding quotientOf
+returns-2 c =
+    let a = c .before .before .args in
+    c .settle .ensures _ (quotient-is (leadingIn (a .a)) (leadingIn (a .b)) (exponentIn (a .a)) (exponentIn (a .b)) (omega arith))
+
+pub over-spec : {M : Type 1} → statement M
+over-spec =
+    tie.close
+    (tie.spec
+    returns
+    mul-settle
+    mul-settle-2
+    div-settle
+    add-settle
+    sub-settle
+    settle-requires
+    returns-2)

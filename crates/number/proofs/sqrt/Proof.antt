@@ -1,0 +1,15 @@
+-- `number::sqrt` meets its contract: +0, the first operand of its task, is a number. Assumes nothing.
+use Rattle.rules.specs.Words.{isNumber}
+use borrow.Author.Needs.{needs}
+use Rattle.number.proofs.sqrt.Statement.{statement}
+use Rattle.number.proofs.sqrt.Tie as tie
+
+perform-requires : tie.Need-perform-requires
+perform-requires c κs = search needs
+
+returns : tie.Need-returns
+unfolding isNumber
+returns c = c .perform .ensures
+
+pub sqrt-spec : {M : Type 1} → statement M
+sqrt-spec = tie.close (tie.spec perform-requires returns)

@@ -1,0 +1,46 @@
+// Roots. Only the answer is promised, not the way to it.
+use crate::rounding::settle;
+use rules::Reckoned;
+ghost use mathlib.Core.Path.{_≡_};
+ghost use mathlib.Core.Bool.{true};
+ghost use Prim.Native.Nat.{_+_, _*_, _^_, _≤_, _<_};
+ghost use Rattle.rules.specs.Words.{isNumber};
+ghost use Rattle.rules.specs.Rounding.{single, settled, rootHalves, rootOf};
+ghost use Rattle.rules.specs.Rounded.{RootCut};
+ghost use Rattle.rules.specs.Arithmetic.{valueIn, wordOf};
+
+// The root of n, cut to a whole number: Newton's steps from above, the first of them from 10^8.
+fn root_below(n: u64) -> u64
+    requires { ⌜ n < 4 * 10 ^ 16 ⌝ }
+    ensures { λ r. ⌜ RootCut n r ⌝ }
+{
+    let mut r = (100_000_000 + n / 100_000_000) / 2;
+    while n < r * r {
+        r = (r + n / r) / 2;
+    }
+    r
+}
+
+// The root of n times an even power of ten, where the root of n has eight digits.
+fn even_root(n: u64, j: u64) -> Reckoned
+    requires { ⌜ (10 ^ 14 ≤ n) × (n < 10 ^ 16) × (j ≤ 174) ⌝ }
+    ensures { λ r. ⌜ r ≡ wordOf (settled single 0 (rootHalves single (n * 10 ^ (j + j)))) ⌝ }
+{
+    settle(0, root_below(4 * n), 0, j)
+}
+
+// The root of a number that is not below zero: its digits are moved up by seven or eight places, so that an even power is left.
+pub(crate) fn root(b: u64) -> Reckoned
+    requires { ⌜ (isNumber b ≡ true) × (b < 10 ^ 10) ⌝ }
+    ensures { λ r. ⌜ r ≡ wordOf (rootOf single (valueIn b)) ⌝ }
+{
+    if b == 0 {
+        return Reckoned::Result(0);
+    }
+    let m = b / 100;
+    let x = b % 100;
+    if x % 2 == 0 {
+        return even_root(m * 10_000_000, (x + 250) / 2);
+    }
+    even_root(m * 100_000_000, (x + 249) / 2)
+}
