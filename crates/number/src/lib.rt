@@ -28,7 +28,7 @@ enum Task {
 }
 
 // A number is +0, or a word of either sign whose ten digits are at least 1000000000.
-fn is_number(w: u64) -> bool
+pub fn is_number(w: u64) -> bool
     ensures { λ r. ⌜ r ≡ isNumber w ⌝ }
 {
     if w == 0 {
