@@ -4,3 +4,4 @@ pub mod Tracings
 pub mod Rows
 pub mod ByClass
 pub mod Stores
+pub mod Blocks

@@ -5,6 +5,7 @@ mod codes;
 mod going;
 mod looping;
 mod memory;
+mod punching;
 mod reckoning;
 mod states;
 mod tracing;
