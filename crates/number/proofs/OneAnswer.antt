@@ -1,4 +1,4 @@
--- Each public function has one answer: its contract says what the answer equals, and two numbers that equal a third are equal.
+-- Each public function has one answer: its contract says what the answer equals, and two answers that equal a third are equal.
 -- Assumes nothing.
 use Prim.Native.Nat.{ℕ}
 use mathlib.Core.Path.{_≡_, sym, _∙_}

@@ -10,7 +10,7 @@ use Rattle.rules.proofs.Nearest.{ten-above, ten-rises, nearest-reached, nearest
 use Rattle.rules.proofs.Rounded.{filled, tenth-filled, rounded-first}
 use Rattle.rules.proofs.Rounding.{placed-within, placed-below, placed-above, settled-none, settled-at, Answer, answered}
 use Rattle.rules.proofs.Roots.{no-larger, root-below}
-use Rattle.promises.specs.Rounding.{Magnitude, fractionOf, rootOf, RoundedTo, Number, Rounds, FractionRounds, RootRounds}
+use Rattle.promises.specs.Rounding.{Magnitude, ofFraction, ofRoot, RoundedTo, Number, Rounds, FractionRounds, RootRounds}
 
 -- what is used of the halves of a magnitude
 record Halves (x : Magnitude) (h : ℕ) : Type 0 where
@@ -124,9 +124,9 @@ module _ (f : Form) (some : 0 < f .digits) (x : Magnitude) (h : ℕ) (w : Halves
       }
 
 pub fraction-rounds : FractionRounds
-fraction-rounds f some p q pos = rounds f some (fractionOf p q) (fraction p q) halves
+fraction-rounds f some p q pos = rounds f some (ofFraction p q) (fraction p q) halves
   where
-    halves : Halves (fractionOf p q) (fraction p q)
+    halves : Halves (ofFraction p q) (fraction p q)
     halves =
         record {
           reach = λ t l. omega (arith, le-div-iff-mul-le {k = q} {x = t} {y = 2 * p} pos .0 l);
@@ -137,7 +137,7 @@ fraction-rounds f some p q pos = rounds f some (fractionOf p q) (fraction p q) h
         }
 
 pub root-rounds : RootRounds
-root-rounds f some n room = rounds f some (rootOf n) (rootHalves f n) halves
+root-rounds f some n room = rounds f some (ofRoot n) (rootHalves f n) halves
   where
     h : ℕ
     h = rootHalves f n
@@ -145,7 +145,7 @@ root-rounds f some n room = rounds f some (rootOf n) (rootHalves f n) halves
     cut : RootCut (4 * n) h
     cut = root-below (7 * f .exponents) (4 * n) room
 
-    halves : Halves (rootOf n) h
+    halves : Halves (ofRoot n) h
     halves =
         record {
           reach = λ t l. omega (arith, mul-le-mul l l, cut .reached);
