@@ -2,3 +2,4 @@ mod Units
 mod Newton
 mod Aligning
 mod Sizes
+pub mod OneAnswer

@@ -8,7 +8,8 @@ use native.Mathlib.Omega.{arith}
 use Rattle.rules.specs.Rounding.{single, nearest, placed, settled}
 use Rattle.rules.specs.Rounded.{Rounded}
 use Rattle.rules.proofs.Nearest.{ten-rises}
-use Rattle.rules.proofs.Rounding.{unit-rounded, settled-is}
+use Rattle.rules.proofs.Rounded.{unit-rounded}
+use Rattle.rules.proofs.Rounding.{settled-is}
 
 -- the unit u is the power e of ten, and in units a tenth as large there would be more than eight digits
 pub record Unit (h u e : ℕ) : Type 0 where

@@ -1,18 +1,19 @@
 -- Every arithmetic order rounds its exact value once. Assumes nothing.
-use Prim.Native.Nat.{ℕ, zero, suc, _+_, _-_, _≤_, _<_}
+use Prim.Native.Nat.{ℕ, zero, suc, _+_, _-_, _*_, _^_, _≤_, _<_}
 use mathlib.Core.Path.{_≡_, refl, sym, ap, subst, _∙_}
 use mathlib.Core.Bool.{true}
-use native.Mathlib.Nat.{lt-of-not-le, mul-pos}
+use native.Mathlib.Nat.{le-trans, lt-of-not-le, mul-le-mul, mul-pos, zero-mul}
 use native.Mathlib.Decide.{decLe}
 use native.Mathlib.Omega.{arith}
+use lib.Dec.{lit≤}
 use borrow.Author.Tests.{ne-eqb}
 use Rattle.rules.specs.Words.{isNumber, signIn, leadingIn, exponentIn}
 use Rattle.rules.specs.Rounding.{single, sum, sumOf, differenceOf, productOf, quotientOf, rootOf, turned}
 use Rattle.rules.specs.Arithmetic.{wordOf, ofNumbers, ofNumber, addOf, subOf, mpyOf, divOf, ngmpyOf, sqrtOf, absOf}
 use Rattle.rules.specs.declared.Reckoned.{Reckoned}
-use Rattle.rules.proofs.Nearest.{ten-above}
+use Rattle.rules.proofs.Nearest.{ten-above, ten-rises}
 use Rattle.rules.proofs.Sums.{sum-same, sum-first, sum-second}
-use Rattle.rules.proofs.Words.{number-full, number-word, root-room}
+use Rattle.rules.proofs.Words.{number-full, number-leading, number-word, root-room}
 use Rattle.promises.specs.Reckoning.{SumRounded, Reckons, Reckoning, above, below, worth}
 
 -- A sum by its signs: of one sign the magnitudes are added, of two the smaller is taken from the larger.
@@ -48,6 +49,17 @@ module _ (a b : ℕ) (na : isNumber a ≡ true) (nb : isNumber b ≡ true) where
   number : (r : Reckoned) → ofNumber b r ≡ r
   number r = rw nb
 
+  -- no quotient of two numbers but zero is below the fine unit
+  quotient-visible : 0 < leadingIn a * 10 ^ (exponentIn a + 57 + 100) → leadingIn b * 10 ^ exponentIn b ≤ 2 * (leadingIn a * 10 ^ (exponentIn a + 57 + 100))
+  quotient-visible l =
+      let i : leadingIn a ≡ 0 → ⊥ = λ z. omega (arith, zero-mul (10 ^ (exponentIn a + 57 + 100)), subst (λ (m : ℕ). 0 < m * 10 ^ (exponentIn a + 57 + 100)) z l) in
+      let most : leadingIn b ≤ 99999999 = omega arith in
+      let top : exponentIn b ≤ 99 = omega arith in
+      let low : 100 ≤ exponentIn a + 57 + 100 = omega arith in
+      let g : leadingIn b * 10 ^ exponentIn b ≤ leadingIn a * 10 ^ (exponentIn a + 57 + 100) =
+      le-trans (mul-le-mul most (ten-rises top)) (le-trans (lit≤ tt) (mul-le-mul (number-leading a na i) (ten-rises low))) in
+      omega arith
+
   reckons : Reckons a b
   unfolding addOf subOf mpyOf ngmpyOf divOf sqrtOf absOf sumOf differenceOf productOf quotientOf rootOf
   reckons =
@@ -58,11 +70,12 @@ module _ (a b : ℕ) (na : isNumber a ≡ true) (nb : isNumber b ≡ true) where
         difference =
             subst (SumRounded (signIn a) (worth a) (turned (signIn b)) (worth b)) (sym (numbers _))
             (sum-rounded (signIn a) (worth a) (turned (signIn b)) (worth b) la (omega arith));
-        product = record { divides = omega arith; rounded = numbers _ };
-        contrary = record { divides = omega arith; rounded = numbers _ };
+        product = record { divides = omega arith; visible = λ l. omega arith; rounded = numbers _ };
+        contrary = record { divides = omega arith; visible = λ l. omega arith; rounded = numbers _ };
         quotient =
             λ z.
             record {
+              visible = quotient-visible;
               divides = mul-pos (omega (arith, number-full b nb z .leading)) (ten-above (exponentIn b));
               rounded = numbers _ ∙ rw (ne-eqb b 0 z);
             };

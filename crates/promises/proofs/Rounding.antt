@@ -1,15 +1,16 @@
 -- Fractions and roots are rounded once, in any form: their halves know all that rounding asks. Assumes nothing.
 use Prim.Native.Nat.{ℕ, suc, _+_, _-_, _*_, _^_, _≤_, _<_}
-use mathlib.Core.Path.{_≡_, refl, sym, ap, subst, subst₂, _∙_}
+use mathlib.Core.Path.{_≡_, sym, ap, subst, _∙_}
 use native.Mathlib.Nat.{lt-of-not-le, mul-le-mul, mul-le-mul-right, le-div-iff-mul-le, pow-suc}
 use native.Mathlib.Decide.{decLe}
 use native.Mathlib.Omega.{arith}
 use Rattle.rules.specs.Rounding.{Form, nought, value, outside, nearest, placed, settled, fraction, rootHalves}
-use Rattle.rules.specs.Rounded.{RootCut}
-use Rattle.rules.proofs.Nearest.{ten-above, ten-rises, nearest-reached, nearest-not-passed, nearest-is, Right, one-place}
-use Rattle.rules.proofs.Rounding.{filled, placed-within, placed-below, placed-above, settled-none, settled-at, Answer, answered}
+use Rattle.rules.specs.Rounded.{Rounded, RootCut}
+use Rattle.rules.proofs.Nearest.{ten-above, ten-rises, nearest-reached, nearest-is, Right, one-place}
+use Rattle.rules.proofs.Rounded.{filled, tenth-filled, rounded-first}
+use Rattle.rules.proofs.Rounding.{placed-within, placed-below, placed-above, settled-none, settled-at, Answer, answered}
 use Rattle.rules.proofs.Roots.{no-larger, root-below}
-use Rattle.promises.specs.Rounding.{Magnitude, fractionOf, rootOf, RoundedTo, Number, Rounds, FractionRounds, RootRounds}
+use Rattle.promises.specs.Rounding.{Magnitude, ofFraction, ofRoot, RoundedTo, Number, Rounds, FractionRounds, RootRounds}
 
 -- what is used of the halves of a magnitude
 record Halves (x : Magnitude) (h : ℕ) : Type 0 where
@@ -22,19 +23,6 @@ record Halves (x : Magnitude) (h : ℕ) : Type 0 where
 -- a unit and its tenth
 tenth-unit : (d k : ℕ) → 2 * (10 ^ d * 10 ^ suc k) - 10 ^ suc k ≡ 10 * (2 * (10 ^ d * 10 ^ k) - 10 ^ k)
 tenth-unit d k = ap (λ (u : ℕ). 2 * (10 ^ d * u) - u) (pow-suc 10 k) ∙ omega arith
-
--- at the right place the first of d digits is not 0
-first-digit : (c h k : ℕ) → 10 ^ suc c ≤ nearest h k → 10 ^ c ≤ nearest h (suc k)
-first-digit c h k l = either (decLe (10 ^ c) (nearest h (suc k)))
-  where
-    either : Dec (10 ^ c ≤ nearest h (suc k)) → 10 ^ c ≤ nearest h (suc k)
-    either (yes g) = g
-    either (no g) =
-        let m : ℕ = nearest h (suc k) in
-        let few : suc m ≤ 10 ^ c = lt-of-not-le g in
-        let many : 10 ^ c * 10 ≤ nearest h k = subst (λ (t : ℕ). t ≤ nearest h k) (pow-suc 10 c) l in
-        let high : h < 2 * (m * (10 ^ k * 10)) + 10 ^ k * 10 = subst (λ (u : ℕ). h < 2 * (m * u) + u) (pow-suc 10 k) (nearest-not-passed h (suc k)) in
-        absurd (omega (arith, nearest-reached h k, mul-le-mul-right (10 ^ k) many, mul-le-mul-right (10 ^ k) few))
 
 module _ (f : Form) (some : 0 < f .digits) (x : Magnitude) (h : ℕ) (w : Halves x h) where
   -- digits and place that are right are the nearest, at the place that is found
@@ -65,18 +53,17 @@ module _ (f : Form) (some : 0 < f .digits) (x : Magnitude) (h : ℕ) (w : Halves
     settles : (s : ℕ) → settled f s h ≡ placed f s m e
     settles s = settled-at f s h e is-some is-right ∙ ap (λ (t : ℕ). placed f s t e) is-nearest
 
-  -- what is nearest at the right place, above the lowest, is rounded
-  right-rounded : (k : ℕ) → Right (f .digits) h (suc k) → RoundedTo (f .digits) x (10 ^ suc k) (nearest h (suc k))
-  right-rounded k r =
-      let m : ℕ = nearest h (suc k) in
+  -- what is rounded by its halves, above the lowest place, is rounded
+  by-halves : (k m : ℕ) → Rounded (f .digits) h (10 ^ suc k) m → RoundedTo (f .digits) x (10 ^ suc k) m
+  by-halves k m r =
       let u : ℕ = 10 ^ suc k in
       let v : ℕ = 2 * (10 ^ f .digits * 10 ^ k) - 10 ^ k in
-      let low : 2 * (m * u) - u ≤ h = omega (arith, nearest-reached h (suc k)) in
-      let tenth-low : v ≤ h = omega (arith, nearest-reached h k, mul-le-mul-right (10 ^ k) (r .notBelow k refl)) in
+      let low : 2 * (m * u) - u ≤ h = omega (arith, r .reached) in
+      let tenth-low : v ≤ h = omega (arith, tenth-filled (f .digits) h k (r .full)) in
       record {
         atLeast = w .reach (2 * (m * u) - u) low;
-        below = λ y. omega (arith, w .reached (2 * (m * u) + u) y, nearest-not-passed h (suc k));
-        fits = r .enough;
+        below = λ y. omega (arith, w .reached (2 * (m * u) + u) y, r .notPassed);
+        fits = r .fits;
         full = subst (x 10) (sym (tenth-unit (f .digits) k)) (w .tenfold v (w .reach v tenth-low));
       }
 
@@ -86,14 +73,14 @@ module _ (f : Form) (some : 0 < f .digits) (x : Magnitude) (h : ℕ) (w : Halves
       let c : ℕ = f .digits - 1 in
       let k : ℕ = a + f .exponents - 1 in
       let e : a + f .exponents ≡ suc k = omega (arith, z .range) in
-      let n : m ≡ nearest h (suc k) = z .digits ∙ ap (nearest h) e in
-      let r : Right (f .digits) h (suc k) = subst (Right (f .digits) h) e (z .right) in
-      let many : 10 ^ suc c ≤ nearest h k = subst (λ (j : ℕ). 10 ^ j ≤ nearest h k) (omega arith) (r .notBelow k refl) in
+      let r : Rounded (suc c) h (10 ^ (a + f .exponents)) m = subst (λ (d : ℕ). Rounded d h (10 ^ (a + f .exponents)) m) (omega arith) (z .rounded) in
       record {
         sign = z .sign;
-        first = subst (λ (j : ℕ). 10 ^ c ≤ j) (sym n) (first-digit c h k many);
+        first = rounded-first c h (10 ^ (a + f .exponents)) m (ten-above (a + f .exponents)) r;
         range = z .range;
-        rounded = subst₂ (λ (j l : ℕ). RoundedTo (f .digits) x (10 ^ j) l) (sym e) (sym n) (right-rounded k r);
+        rounded =
+            subst (λ (j : ℕ). RoundedTo (f .digits) x (10 ^ j) m) (sym e)
+            (by-halves k m (subst (λ (j : ℕ). Rounded (f .digits) h (10 ^ j) m) e (z .rounded)));
       }
 
   -- a magnitude that has not d digits at the lowest place
@@ -137,9 +124,9 @@ module _ (f : Form) (some : 0 < f .digits) (x : Magnitude) (h : ℕ) (w : Halves
       }
 
 pub fraction-rounds : FractionRounds
-fraction-rounds f some p q pos = rounds f some (fractionOf p q) (fraction p q) halves
+fraction-rounds f some p q pos = rounds f some (ofFraction p q) (fraction p q) halves
   where
-    halves : Halves (fractionOf p q) (fraction p q)
+    halves : Halves (ofFraction p q) (fraction p q)
     halves =
         record {
           reach = λ t l. omega (arith, le-div-iff-mul-le {k = q} {x = t} {y = 2 * p} pos .0 l);
@@ -150,7 +137,7 @@ fraction-rounds f some p q pos = rounds f some (fractionOf p q) (fraction p q) h
         }
 
 pub root-rounds : RootRounds
-root-rounds f some n room = rounds f some (rootOf n) (rootHalves f n) halves
+root-rounds f some n room = rounds f some (ofRoot n) (rootHalves f n) halves
   where
     h : ℕ
     h = rootHalves f n
@@ -158,7 +145,7 @@ root-rounds f some n room = rounds f some (rootOf n) (rootHalves f n) halves
     cut : RootCut (4 * n) h
     cut = root-below (7 * f .exponents) (4 * n) room
 
-    halves : Halves (rootOf n) h
+    halves : Halves (ofRoot n) h
     halves =
         record {
           reach = λ t l. omega (arith, mul-le-mul l l, cut .reached);

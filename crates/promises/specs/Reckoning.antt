@@ -1,6 +1,7 @@
--- Which exact value each arithmetic order rounds, in the fine unit of the form; what Rounding states of fractions and roots then holds of
--- it. Assumes nothing.
-use Prim.Native.Nat.{ℕ, _+_, _*_, _^_, _<_}
+-- Which exact value each arithmetic order rounds; what Rounding states of fractions and roots then holds of it. The fine unit is that of
+-- the exponent 100 below 00, worth 10 to the power -157: so a number's digits are scaled by its exponent and 100, a product's by 43, a
+-- quotient's by 157, and what a root is taken of by 257. Assumes nothing.
+use Prim.Native.Nat.{ℕ, _+_, _*_, _^_, _≤_, _<_}
 use mathlib.Core.Path.{_≡_}
 use mathlib.Core.Bool.{true}
 use lib.Dec.{eqb}
@@ -24,9 +25,11 @@ pub record SumRounded (s x t y : ℕ) (answer : Reckoned) : Type 0 where
   pub exact : above r p + (below s x + below t y) ≡ below r p + (above s x + above t y)
   pub rounded : answer ≡ wordOf (settled single r (fraction p 1))
 
--- The answer is the magnitude p / q of sign s, rounded once.
+-- The answer is the magnitude p / q of sign s, rounded once. Where that is not zero it is at least half the fine unit, so that only zero
+-- is answered as zero.
 pub record FractionRounded (s p q : ℕ) (answer : Reckoned) : Type 0 where
   pub divides : 0 < q
+  pub visible : 0 < p → q ≤ 2 * p
   pub rounded : answer ≡ wordOf (settled single s (fraction p q))
 
 -- The answer is the root of n, rounded once.

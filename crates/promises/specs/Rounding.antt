@@ -9,11 +9,11 @@ use Rattle.rules.specs.Rounding.{Form, nought, value, outside, settled, fractio
 abbrev pub Magnitude : Type 1
 Magnitude = ℕ → ℕ → Type 0
 
-abbrev pub fractionOf : ℕ → ℕ → Magnitude
-fractionOf p q k t = t * q ≤ k * (2 * p)
+abbrev pub ofFraction : ℕ → ℕ → Magnitude
+ofFraction p q k t = t * q ≤ k * (2 * p)
 
-abbrev pub rootOf : ℕ → Magnitude
-rootOf n k t = t * t ≤ k * k * (4 * n)
+abbrev pub ofRoot : ℕ → Magnitude
+ofRoot n k t = t * t ≤ k * k * (4 * n)
 
 -- m units u are the magnitude rounded to d digits: it is at least m - 1/2 units, so a half goes away from zero, and less than m + 1/2;
 -- m has no more than d digits; and in units a tenth as large it would have more.
@@ -47,8 +47,8 @@ pub record Rounds (f : Form) (x : Magnitude) (h : ℕ) : Type 0 where
 
 -- The magnitude p / q is rounded once.
 abbrev pub FractionRounds : Type 0
-FractionRounds = (f : Form) → 0 < f .digits → (p q : ℕ) → 0 < q → Rounds f (fractionOf p q) (fraction p q)
+FractionRounds = (f : Form) → 0 < f .digits → (p q : ℕ) → 0 < q → Rounds f (ofFraction p q) (fraction p q)
 
 -- The root of n is rounded once, for n as large as the form's roots can be asked for.
 abbrev pub RootRounds : Type 0
-RootRounds = (f : Form) → 0 < f .digits → (n : ℕ) → 4 * n < 4 ^ (7 * f .exponents) → Rounds f (rootOf n) (rootHalves f n)
+RootRounds = (f : Form) → 0 < f .digits → (n : ℕ) → 4 * n < 4 ^ (7 * f .exponents) → Rounds f (ofRoot n) (rootHalves f n)

@@ -4,6 +4,7 @@ pub mod Undone
 pub mod Growth
 pub mod Words
 pub mod Nearest
+pub mod Rounded
 pub mod Rounding
 pub mod Roots
 pub mod Fractions

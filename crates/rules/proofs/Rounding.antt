@@ -1,9 +1,9 @@
--- The facts on rounding, for any form of numbers: whoever has digits and a place that are right has the definition's answer, and the
--- definition's own answer is right. Assumes nothing.
+-- The definition of a rounded result, for any form of numbers: whoever has digits and a place that are right has its answer, and its own
+-- answer is right. Assumes nothing.
 use Prim.Native.Nat.{ℕ, suc, _+_, _-_, _*_, _/_, _^_, _≤_, _<_}
-use mathlib.Core.Path.{_≡_, refl, sym, ap, subst, _∙_}
+use mathlib.Core.Path.{_≡_, refl, sym, ap, subst, subst₂, _∙_}
 use mathlib.Core.Bool.{Bool, true, false}
-use native.Mathlib.Nat.{lt-of-not-le, lt-of-mul-lt-mul-right, mul-le-mul-right, mul-comm, div-mul-le-self, lt-div-mul-add, pow-suc}
+use native.Mathlib.Nat.{lt-of-not-le, mul-comm}
 use native.Mathlib.Decide.{decLe}
 use native.Mathlib.Omega.{arith}
 use lib.Dec.{eqb, leb, ltb}
@@ -12,52 +12,8 @@ use borrow.Author.Tests.{leb-true, ltb-true, eq-eqb, ne-eqb, le-leb, lt-leb, lt-
 use Rattle.rules.specs.Words.{pick}
 use Rattle.rules.specs.Rounding.{Form, nought, value, outside, nearest, placeIn, placed, settled}
 use Rattle.rules.specs.Rounded.{Rounded}
-use Rattle.rules.proofs.Nearest.{ten-above, nearest-reached, nearest-not-passed, nearest-is, Right, place-right, place-beyond, right-place}
-
--- What is nearest and at the right place is rounded, and the other way round.
-
--- ten times the unit, at the next place
-pub next-unit : (d h k : ℕ) → 2 * (10 ^ d * 10 ^ suc k) ≤ 10 * h + 10 ^ suc k → 2 * (10 ^ d * 10 ^ k) ≤ h + 10 ^ k
-next-unit d h k l =
-    let w : 2 * (10 ^ d * (10 ^ k * 10)) ≤ 10 * h + 10 ^ k * 10 = subst (λ (u : ℕ). 2 * (10 ^ d * u) ≤ 10 * h + u) (pow-suc 10 k) l in
-    omega arith
-
--- where d digits are just filled by units of the place k
-pub filled : (d h k : ℕ) → 2 * (10 ^ d * 10 ^ k) ≤ h + 10 ^ k → 10 ^ d ≤ nearest h k
-filled d h k l =
-    let g : 10 ^ d * 10 ^ k < suc (nearest h k) * 10 ^ k = omega (arith, nearest-not-passed h k) in
-    let w : 10 ^ d < suc (nearest h k) = lt-of-mul-lt-mul-right (10 ^ k) g in
-    omega arith
-
-module _ (d h e m : ℕ) (r : Rounded d h (10 ^ e) m) where
-  pub rounded-nearest : nearest h e ≡ m
-  rounded-nearest = nearest-is h e m (r .reached) (r .notPassed)
-
-  pub rounded-right : Right d h e
-  rounded-right =
-      record {
-        enough = omega (arith, rounded-nearest, r .fits);
-        notBelow = λ k i. filled d h k (next-unit d h k (subst (λ (x : ℕ). 2 * (10 ^ d * 10 ^ x) ≤ 10 * h + 10 ^ x) i (r .full)));
-      }
-
-  pub rounded-some : 0 < h
-  rounded-some = omega (arith, r .full, ten-above e, mul-le-mul-right (10 ^ e) (ten-above d))
-
--- a unit of which there are fewer than 10 ^ d, rounded, and of whose tenth there are not
-pub unit-rounded : (d h e : ℕ) → 2 * (10 ^ d * 10 ^ e) ≤ 10 * h + 10 ^ e → h + 10 ^ e < 2 * (10 ^ d * 10 ^ e) → Rounded d h (10 ^ e) (nearest h e)
-unit-rounded d h e full few =
-    let l : nearest h e * 10 ^ e < 10 ^ d * 10 ^ e = omega (arith, nearest-reached h e) in
-    record { reached = nearest-reached h e; notPassed = nearest-not-passed h e; fits = lt-of-mul-lt-mul-right (10 ^ e) l; full = full }
-
--- Digits below a place do not matter, if those above it are enough.
-pub lift : (d h c u m : ℕ) → 0 < c → Rounded d (h / c) u m → Rounded d h (u * c) m
-lift d h c u m pos r =
-    record {
-      reached = omega (arith, mul-le-mul-right c (r .reached), div-mul-le-self h c);
-      notPassed = omega (arith, mul-le-mul-right c (r .notPassed), lt-div-mul-add {a = h} {b = c} pos);
-      fits = r .fits;
-      full = omega (arith, mul-le-mul-right c (r .full), div-mul-le-self h c);
-    }
+use Rattle.rules.proofs.Nearest.{ten-above, Right, place-right, place-beyond, right-place}
+use Rattle.rules.proofs.Rounded.{rounded-nearest, rounded-right, rounded-some, right-rounded, lift}
 
 -- The exponent is judged on the place of the rounded digits.
 module _ (f : Form) (s m e : ℕ) where
@@ -101,12 +57,11 @@ settled-is f s h j k m r =
     settled-at f s h (j + k) (rounded-some (f .digits) h (j + k) m g) (rounded-right (f .digits) h (j + k) m g)
     ∙ ap (λ (x : ℕ). placed f s x (j + k)) (rounded-nearest (f .digits) h (j + k) m g)
 
--- A number of the form that the definition answers has the sign asked for, and the nearest digits at the right place.
+-- A number of the form that the definition answers has the sign asked for and is rounded.
 pub record Answer (f : Form) (s h t m a : ℕ) : Type 0 where
   pub sign : t ≡ s
   pub range : a < f .exponents
-  pub digits : m ≡ nearest h (a + f .exponents)
-  pub right : Right (f .digits) h (a + f .exponents)
+  pub rounded : Rounded (f .digits) h (10 ^ (a + f .exponents)) m
 
 pub answered : (f : Form) (s h t m a : ℕ) → settled f s h ≡ value t m a → Answer f s h t m a
 unfolding settled placed
@@ -115,19 +70,20 @@ answered f s h t m a i = by-none (eqb h 0) refl i
     e : ℕ
     e = placeIn f h
 
-    top : ℕ
-    top = 4 * f .exponents
-
     by-high : (b : Bool) → ltb e (2 * f .exponents) ≡ b → f .exponents ≤ e → pick b (value s (nearest h e) (e - f .exponents)) outside ≡ value t m a → Answer f s h t m a
     by-high true w l i =
         let g : e < 2 * f .exponents = ltb-true e (2 * f .exponents) w in
         let x : e - f .exponents ≡ a = cc in
-        let y : e ≡ a + f .exponents = omega arith in
+        let y : nearest h e ≡ m = cc in
+        let k : ℕ = a + f .exponents - 1 in
+        let z : e ≡ suc k = omega arith in
+        let r : Right (f .digits) h (suc k) = subst (Right (f .digits) h) z (right-place (f .digits) h (4 * f .exponents) (omega arith)) in
         record {
           sign = cc;
           range = omega arith;
-          digits = let z : nearest h e ≡ m = cc in sym z ∙ ap (nearest h) y;
-          right = subst (Right (f .digits) h) y (right-place (f .digits) h top (omega arith));
+          rounded =
+              subst₂ (λ (c n : ℕ). Rounded (f .digits) h (10 ^ c) n) (omega arith) (ap (nearest h) (sym z) ∙ y)
+              (right-rounded (f .digits) h k r);
         }
     by-high false w l i = let z : _≡_ {A = ℕ} 0 1 = cc in absurd (omega arith)
 

@@ -1,0 +1,34 @@
+-- Each public function has one answer: its contract says what the answer equals, and two answers that equal a third are equal.
+-- Assumes nothing.
+use Prim.Native.Nat.{ℕ}
+use mathlib.Core.Path.{_≡_, sym, _∙_}
+use Rattle.rules.specs.Arithmetic.{addOf, subOf, mpyOf, divOf, ngmpyOf, sqrtOf, absOf}
+use Rattle.rules.specs.declared.Reckoned.{Reckoned}
+
+-- the answers r that a rule allows are one
+abbrev pub One : Reckoned → Type 0
+One rule = (r q : Reckoned) → r ≡ rule → q ≡ rule → r ≡ q
+
+one : (rule : Reckoned) → One rule
+one rule r q i j = i ∙ sym j
+
+pub record OneAnswer (a b : ℕ) : Type 0 where
+  pub add : One (addOf a b)
+  pub sub : One (subOf a b)
+  pub mpy : One (mpyOf a b)
+  pub div : One (divOf a b)
+  pub ngmpy : One (ngmpyOf a b)
+  pub sqrt : One (sqrtOf b)
+  pub abs : One (absOf b)
+
+pub one-answer : (a b : ℕ) → OneAnswer a b
+one-answer a b =
+    record {
+      add = one (addOf a b);
+      sub = one (subOf a b);
+      mpy = one (mpyOf a b);
+      div = one (divOf a b);
+      ngmpy = one (ngmpyOf a b);
+      sqrt = one (sqrtOf b);
+      abs = one (absOf b);
+    }
