@@ -1,3 +1,5 @@
 pub mod Looks
 pub mod Forms
 pub mod Checks
+pub mod Splices
+pub mod Writes

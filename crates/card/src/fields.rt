@@ -6,7 +6,7 @@ ghost use Rattle.rules.specs.Cards.{isDigit, signDue, isDue, numberIn, cellsFit
 ghost use Rattle.card.specs.Forms.{FormIs};
 
 // How a card is laid out: how many words and bytes it has, where its location stands and how many cells that names.
-pub struct Form {
+pub(crate) struct Form {
     pub words: usize,
     pub size: usize,
     pub place: usize,
@@ -14,7 +14,7 @@ pub struct Form {
 }
 
 // The form of a kind, with no bytes for a kind that stands in no deck.
-pub fn form_of(kind: u8) -> Form
+pub(crate) fn form_of(kind: u8) -> Form
     ensures { λ r. ⌜ FormIs kind r ⌝ }
 {
     match kind {
@@ -43,7 +43,7 @@ pub fn form_of(kind: u8) -> Form
 }
 
 // Whether a byte is a digit.
-pub fn is_digit(b: u8) -> bool
+pub(crate) fn is_digit(b: u8) -> bool
     ensures { λ r. ⌜ r ≡ isDigit b ⌝ }
 {
     if b < 48 {
@@ -67,7 +67,7 @@ fn sign_due(n: usize, o: usize) -> bool
 }
 
 // Whether the byte b is the one due at place o of a card of n words: a sign, or else a digit.
-pub fn is_due(n: usize, o: usize, b: u8) -> bool
+pub(crate) fn is_due(n: usize, o: usize, b: u8) -> bool
     requires { ⌜ n ≤ 5 ⌝ }
     ensures { λ r. ⌜ r ≡ isDue n o b ⌝ }
 {
@@ -81,21 +81,21 @@ pub fn is_due(n: usize, o: usize, b: u8) -> bool
 }
 
 // The byte at place a, and 0 past the end.
-pub fn byte_at(d: &[u8], a: usize) -> u8
+pub(crate) fn byte_at(d: &[u8], a: usize) -> u8
     ensures { λ r. ⌜ r ≡ getD (now (d .entry)) a 0 ⌝ }
 {
     if a < d.len() { d[a] } else { 0 }
 }
 
 // What a byte counts as a digit: 0 where it is below all digits.
-pub fn figure(b: u8) -> u64
+pub(crate) fn figure(b: u8) -> u64
     ensures { λ r. ⌜ (r ≡ b - 48) × (r ≤ 207) ⌝ }
 {
     if b < 48 { 0 } else { (b - 48) as u64 }
 }
 
 // The number that n digits from place a on are.
-pub fn number_in(d: &[u8], a: usize, n: usize) -> u64
+pub(crate) fn number_in(d: &[u8], a: usize, n: usize) -> u64
     requires { ⌜ n ≤ 10 ⌝ }
     requires { ⌜ a + n < 2 ^ 64 ⌝ }
     ensures { λ r. ⌜ (r ≡ numberIn (now (d .entry)) a n) × (r + 23 ≤ 23 * 10 ^ n) ⌝ }
@@ -111,12 +111,14 @@ pub fn number_in(d: &[u8], a: usize, n: usize) -> u64
 }
 
 // Whether so many cells from a location on are within 1 to 999.
-pub fn cells_fit(location: u64, n: usize) -> bool
-    requires { ⌜ location < 2 ^ 32 ⌝ }
+pub(crate) fn cells_fit(location: u64, n: usize) -> bool
     requires { ⌜ n ≤ 5 ⌝ }
     ensures { λ r. ⌜ r ≡ cellsFit location n ⌝ }
 {
     if location < 1 {
+        return false;
+    }
+    if 1000 < location {
         return false;
     }
     location + (n as u64) <= 1000

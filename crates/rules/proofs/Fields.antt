@@ -1,7 +1,7 @@
 -- Words written and read, one and many, and how long each field and card is. What stands at place a of d is said as
 -- `drop a d ≡ field ++ rest`. Assumes nothing.
 use mathlib.Core.Path.{_≡_, refl, sym, ap, ap₂, subst, _∙_}
-use mathlib.Core.List.{List, [], _∷_, _++_, append-assoc}
+use mathlib.Core.List.{List, [], _∷_, _++_, append-assoc, append-nil}
 use mathlib.Core.Bool.{Bool, true, false}
 use Prim.Native.Nat.{ℕ, zero, suc, _+_, _*_, _-_, _/_, _%_, _^_, _≤_, _<_}
 use native.Mathlib.Nat.{add-zero, add-comm, le-of-suc-le-suc}
@@ -9,7 +9,7 @@ use native.Mathlib.Numerals.{add-one}
 use native.Mathlib.Omega.{arith}
 use lib.Dec.{ltb, eqb}
 use lib.ListN.{length, getD, take, drop, length-append, List·getD-append}
-use lib.Seq.{getD-drop, drop-cons, drop-drop, drop-at, take-add}
+use lib.Seq.{getD-drop, drop-cons, drop-drop, drop-at, take-add, take-suc}
 use borrow.Author.Tests.{ltb-true, ltb-false, lt-ltb, le-ltb, eqb-true, le-leb}
 use Rattle.rules.specs.Words.{pick}
 use Rattle.rules.specs.Cards.{digits, signByte, wordBytes, wordsBytes, dataCard, firstCard, traceCard, stopCard, width, refusalLine, isDigit, isSign, numberIn, wordIn}
@@ -45,6 +45,21 @@ length-stop number location count shown = simp (length-append, length-digits, le
 pub length-line : (number place : ℕ) → length (refusalLine number place) ≡ width 20 number + 1 + width 20 place
 unfolding refusalLine
 length-line number place = simp (length-append, length-digits) (omega arith)
+
+-- ---- words one by one
+
+words-append : (us vs : List ℕ) → wordsBytes (us ++ vs) ≡ wordsBytes us ++ wordsBytes vs
+unfolding wordsBytes
+words-append [] vs = refl
+words-append (u ∷ us) vs =
+    ap (λ (l : List ℕ). wordBytes u ++ l) (words-append us vs) ∙ sym (append-assoc (wordBytes u) (wordsBytes us) (wordsBytes vs))
+
+pub words-more : (ws : List ℕ) (i : ℕ) → i < length ws → wordsBytes (take (i + 1) ws) ≡ wordsBytes (take i ws) ++ wordBytes (getD ws i 0)
+unfolding wordsBytes
+words-more ws i h =
+    ap wordsBytes (ap (λ (k : ℕ). take k ws) (add-one i) ∙ take-suc ws i 0 h)
+    ∙ words-append (take i ws) (getD ws i 0 ∷ [])
+    ∙ ap (λ (l : List ℕ). wordsBytes (take i ws) ++ l) (append-nil (wordBytes (getD ws i 0)))
 
 -- ---- what stands behind a field of n bytes
 

@@ -103,7 +103,7 @@ number-in-requires : tie.Need-number-in-requires Inv-loop μ-loop Inv-cards μ-c
 number-in-requires c κs = search needs
 
 cells-fit-requires : tie.Need-cells-fit-requires Inv-loop μ-loop Inv-cards μ-cards
-cells-fit-requires c κs = (omega (arith, c .number-in .ensures .1), c .before .before .before .before .before .before .before .form-of .ensures .cells)
+cells-fit-requires c κs = c .before .before .before .before .before .before .before .form-of .ensures .cells
 
 add-at : tie.Need-add-at Inv-loop μ-loop Inv-cards μ-cards
 add-at c = omega (arith, c .before .before .before .before .before .if6 .left, c .before .before .before .before .before .before .before .before .before .before .before .before .before .before .if1 .left, c .before .before .before .before .before .before .before .before .before .before .before .before .before .cards .inv .within, length-part (c .before .before .before .before .before .before .before .before .before .before .before .before .before .before .before .before .args .deck .now) (c .before .before .before .before .before .before .before .before .before .before .before .before .before .cards .at))

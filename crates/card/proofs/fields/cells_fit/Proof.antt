@@ -1,4 +1,6 @@
 -- `card::cells_fit` meets its contract: its two tests are those of the definition. Assumes nothing.
+use Prim.Native.Nat.{_+_}
+use native.Mathlib.Omega.{arith}
 use borrow.Author.Needs.{needs}
 use borrow.Author.Tests.{lt-leb, le-leb}
 use Rattle.card.proofs.fields.cells_fit.Statement.{statement}
@@ -7,11 +9,16 @@ use Rattle.card.proofs.fields.cells_fit.Tie as tie
 returns : tie.Need-returns
 returns c = simp (lt-leb 1 _ (c .if1 .taken))
 
+returns-2 : tie.Need-returns-2
+returns-2 c =
+    let a = c .before .before .args in
+    simp (le-leb 1 _ (c .before .if1 .left), lt-leb (a .location + a .n) 1000 (omega arith))
+
 add-result : tie.Need-add-result
 add-result c = search needs
 
-returns-2 : tie.Need-returns-2
-returns-2 c = simp (le-leb 1 _ (c .if1 .left))
+returns-3 : tie.Need-returns-3
+returns-3 c = simp (le-leb 1 _ (c .before .if1 .left))
 
 pub cells-fit-spec : {M : Type 1} → statement M
-cells-fit-spec = tie.close (tie.spec returns add-result returns-2)
+cells-fit-spec = tie.close (tie.spec returns returns-2 add-result returns-3)

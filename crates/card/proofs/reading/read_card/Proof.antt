@@ -2,7 +2,6 @@
 use mathlib.Core.Path.{_≡_, sym, ap, ap₂, _∙_}
 use Prim.Native.Nat.{ℕ}
 use native.Mathlib.Nat.{pos-of-ne-zero}
-use native.Mathlib.Omega.{arith}
 use borrow.Author.Needs.{needs}
 use borrow.Author.Tests.{not-true, not-false}
 use Rattle.rules.specs.Cards.{numberIn, cellsFit}
@@ -53,7 +52,7 @@ number-in-requires : tie.Need-number-in-requires
 number-in-requires c κs = search needs
 
 cells-fit-requires : tie.Need-cells-fit-requires
-cells-fit-requires c κs = (omega (arith, c .number-in .ensures .1), c .before .before .before .before .before .form-of .ensures .cells)
+cells-fit-requires c κs = c .before .before .before .before .before .form-of .ensures .cells
 
 returns-5 : tie.Need-returns-5
 returns-5 c =
