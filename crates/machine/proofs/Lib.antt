@@ -5,3 +5,5 @@ pub mod Rows
 pub mod ByClass
 pub mod Stores
 pub mod Blocks
+pub mod Sent
+pub mod Punches

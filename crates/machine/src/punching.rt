@@ -38,3 +38,23 @@ fn at_most_five(n: usize) -> usize
     }
     5
 }
+// The counter rises, and the card of the n cells from b on is written at a place of the output.
+fn punch_card(
+    drum: &[u64],
+    marks: &[u8],
+    out: &mut [u8],
+    at: usize,
+    state: State,
+    b: usize,
+    n: usize,
+) -> State
+    requires { ⌜ Ready (now drum) (now marks) × Steady (state .problem) (state .counts) ⌝ }
+    requires { ⌜ (1 ≤ b) × (b + n ≤ 1000) × (1 ≤ n) × (n ≤ 5) × (at + (11 + 11 * n) ≤ length (now out)) ⌝ }
+    ensures { λ r. ⌜ (r ≡ numbered state) × Sends (now (drum .entry)) (now (marks .entry)) (now (out .entry)) at state
+        (now (out .exit)) (at + (11 + 11 * n)) r (λ m. cardPunched m b n) ⌝ }
+{
+    let s = crate::states::numbered_next(state);
+    let words = gather(drum, marks, b, n);
+    card::write_data(&mut out[at..], s.counter, b, words, n, s.problem);
+    s
+}

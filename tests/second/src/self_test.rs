@@ -100,7 +100,12 @@ impl Bench<'_> {
 
     /// The exit status of a judge and the last line it prints.
     fn judge(&self, count: u64, seed: u64, answers: &Path) -> (i32, String) {
-        call(&[&format!("judge-{}", self.kind), &seed.to_string(), &count.to_string(), text(answers)])
+        call(&[
+            &format!("judge-{}", self.kind),
+            &seed.to_string(),
+            &count.to_string(),
+            text(answers),
+        ])
     }
 
     fn expect(&self, holds: bool, otherwise: &str) -> bool {
@@ -118,7 +123,8 @@ fn text(path: &Path) -> &str {
 /// Runs this program with other arguments.
 fn call(arguments: &[&str]) -> (i32, String) {
     let program = std::env::current_exe().expect("the path of this program");
-    let output = Command::new(program).args(arguments).output().expect("this program can be started");
+    let output =
+        Command::new(program).args(arguments).output().expect("this program can be started");
     let printed = String::from_utf8_lossy(&output.stdout);
     let last = printed.lines().last().unwrap_or("").to_string();
     (output.status.code().unwrap_or(-1), last)

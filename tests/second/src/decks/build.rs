@@ -115,7 +115,10 @@ mod tests {
         let mut chance = Chance::new(5);
         for _ in 0..2_000 {
             assert!(check(&Cards::any(&mut chance).bytes()).is_ok());
-            assert_eq!(check(&Cards::every_kind(&mut chance).bytes()).map(|deck| deck.length), Ok(447));
+            assert_eq!(
+                check(&Cards::every_kind(&mut chance).bytes()).map(|deck| deck.length),
+                Ok(447)
+            );
         }
         for _ in 0..20 {
             assert_eq!(check(&longest(&mut chance).bytes()).map(|deck| deck.length), Ok(65_534));

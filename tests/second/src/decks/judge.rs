@@ -20,7 +20,12 @@ fn seen(deck: &[u8]) -> Seen {
 /// All that can be reached.
 fn reachable() -> Vec<Seen> {
     use CardFault::*;
-    let mut all = vec![None, Some((Fault::TooLong, false)), Some((Fault::NoT, false)), Some((Fault::SecondT, true))];
+    let mut all = vec![
+        None,
+        Some((Fault::TooLong, false)),
+        Some((Fault::NoT, false)),
+        Some((Fault::SecondT, true)),
+    ];
     for fault in [Kind, CutShort, NotDigit, NotSign, Location000, LastPast999, FirstOrder000] {
         all.push(Some((Fault::Card(fault), false)));
         all.push(Some((Fault::Card(fault), true)));
@@ -66,5 +71,8 @@ pub fn judge(seed: u64, count: u64, path: &str) -> bool {
 fn tell(index: u64, deck: &[u8], due: (u64, u64), got: (u64, u64)) -> String {
     let start = deck[..deck.len().min(500)].escape_ascii();
     let length = deck.len();
-    format!("deck {index} of {length} bytes: model {} {}, answer {} {}: {start}", due.0, due.1, got.0, got.1)
+    format!(
+        "deck {index} of {length} bytes: model {} {}, answer {} {}: {start}",
+        due.0, due.1, got.0, got.1
+    )
 }

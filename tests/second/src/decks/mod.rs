@@ -2,6 +2,7 @@
 
 pub mod build;
 mod cases;
+mod damage;
 mod judge;
 
 use crate::chance::Chance;
@@ -17,7 +18,7 @@ pub fn with_fault(fault: Fault, chance: &mut Chance) -> Vec<u8> {
         return vec![b'?'; 65_537 + chance.index(3)];
     }
     loop {
-        let deck = cases::damaged_somehow(chance);
+        let deck = damage::damaged_somehow(chance);
         if deck.len() < 1_000 && check(&deck).is_err_and(|(found, _)| found == fault) {
             return deck;
         }

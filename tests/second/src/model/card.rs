@@ -125,7 +125,8 @@ mod tests {
     #[test]
     fn a_card_reads_back_as_it_was_written() {
         for count in 1..=5 {
-            let words = (0..count).map(|i| Word { minus: i % 2 == 0, digits: 1_234_567_890 * i }).collect();
+            let words =
+                (0..count).map(|i| Word { minus: i % 2 == 0, digits: 1_234_567_890 * i }).collect();
             let card = DataCard { number: 9_999, location: 995, words, problem: 7 };
             let text = card.text();
             assert_eq!(text.len() as u64, 11 + 11 * count);

@@ -57,7 +57,9 @@ pub fn check(deck: &[u8]) -> Result<Deck, (Fault, usize)> {
             Card::Data(card) if transfer.is_none() => before.push(card),
             Card::Data(card) => after.push((at, card)),
             Card::Transfer { .. } if transfer.is_some() => return Err((Fault::SecondT, at)),
-            Card::Transfer { first_order, problem } => transfer = Some((first_order, problem, at + length)),
+            Card::Transfer { first_order, problem } => {
+                transfer = Some((first_order, problem, at + length))
+            }
         }
         at += length;
     }

@@ -26,15 +26,32 @@ pub enum Tracing {
 
 #[derive(Clone, Copy, Debug, PartialEq, Eq, PartialOrd, Ord)]
 pub enum Event {
-    Loaded { traced: bool },
+    Loaded {
+        traced: bool,
+    },
     LoadRefused(Reason),
     /// Told only of lines that hold alone, when several of one number could hold at once.
     RunRefused(Reason),
     RunRefusedForSeveral,
     /// `modified`: the loop box made the order as done another than the order as stored.
-    Completed { code: Code, way: Way, stopped: bool, tracing: Tracing, modified: bool },
+    Completed {
+        code: Code,
+        way: Way,
+        stopped: bool,
+        tracing: Tracing,
+        modified: bool,
+    },
     /// Before the code was looked at, or with a code that is not built.
-    Refused { reason: Reason, tracing: Tracing },
-    OrderRefused { code: Code, reason: Reason, tracing: Tracing },
-    BudgetUsed { zero: bool },
+    Refused {
+        reason: Reason,
+        tracing: Tracing,
+    },
+    OrderRefused {
+        code: Code,
+        reason: Reason,
+        tracing: Tracing,
+    },
+    BudgetUsed {
+        zero: bool,
+    },
 }

@@ -47,7 +47,13 @@ impl Machine<'_> {
                 let (way, stop) = (effects.way, effects.stop);
                 let modified = order.word() != stored;
                 self.apply(order, effects);
-                (self.witness)(Event::Completed { code, way, stopped: stop.is_some(), tracing, modified });
+                (self.witness)(Event::Completed {
+                    code,
+                    way,
+                    stopped: stop.is_some(),
+                    tracing,
+                    modified,
+                });
                 Ok(stop)
             }
             Err(reason) => {

@@ -85,7 +85,9 @@ pub fn nearest(value: &Exact) -> (u64, i64) {
 
     // m is right when m - 1/2 is at most the value and m + 1/2 is above it.
     let question = Question::new(value, e);
-    let m = largest(SEVEN_DIGITS as i64, EIGHT_DIGITS as i64 + 1, |m| question.holds(2 * m as u64 - 1)) as u64;
+    let m =
+        largest(SEVEN_DIGITS as i64, EIGHT_DIGITS as i64 + 1, |m| question.holds(2 * m as u64 - 1))
+            as u64;
     if m == EIGHT_DIGITS {
         (SEVEN_DIGITS, e + 1)
     } else {

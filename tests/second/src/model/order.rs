@@ -179,7 +179,10 @@ mod tests {
         for digits in 1..8 {
             let named = [digits & 4 != 0, digits & 2 != 0, digits & 1 != 0];
             let o2 = named.iter().fold(0, |value, &one| value * 10 + one as u64);
-            assert_eq!(code(Order { minus: false, o1: 0, a: o2, b: 0, c: 0 }), Some(Code::Loop(named)));
+            assert_eq!(
+                code(Order { minus: false, o1: 0, a: o2, b: 0, c: 0 }),
+                Some(Code::Loop(named))
+            );
         }
     }
 }

@@ -18,6 +18,7 @@ pub fn trace_card(stored: Word, done: Order, state: &State, drum: &Drum) -> Stri
     let counts = Order { minus: false, o1: 0, a, b, c };
     let a_word = if done.o1 != 0 && done.a != 0 { drum.shown(done.a) } else { Word::PLUS_ZERO };
     let words = vec![stored, done.word(), counts.word(), a_word, drum.shown(done.b), drum.shown(0)];
-    let card = DataCard { number: state.counter, location: state.location, words, problem: state.problem };
+    let card =
+        DataCard { number: state.counter, location: state.location, words, problem: state.problem };
     card.trace_text()
 }

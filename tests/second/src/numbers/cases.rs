@@ -3,6 +3,7 @@
 use super::operands::{any, any_number, digits, exponent, number, signed};
 use super::shapes;
 use crate::chance::Chance;
+use crate::model::word::MINUS;
 
 #[derive(Clone, Copy, Debug, PartialEq, Eq)]
 pub struct Case {
@@ -23,8 +24,9 @@ pub const ABS: u64 = 6;
 /// Marks this stream apart from the others of the same seed.
 const KIND: u64 = 1;
 
-/// P1 to P10 of the paper's table come first in every stream.
-const TABLE: [(u64, u64, u64); 10] = [
+/// The first cases of every stream: P1 to P10 of the paper's table, then others at a turn of a rule,
+/// so that each operation answers each of its numbers.
+const TABLE: [(u64, u64, u64); 28] = [
     (ADD, 1_000_000_050, 1_000_000_050),
     (SUB, 1_000_000_050, 1_000_000_050),
     (DIV, 1_000_000_050, 3_000_000_050),
@@ -35,10 +37,33 @@ const TABLE: [(u64, u64, u64); 10] = [
     (DIV, 0, 0),
     (NGMPY, 2_000_000_050, 3_000_000_050),
     (SQRT, 2_000_000_050, 0),
+    // The range is judged after rounding.
+    (MPY, 1_000_000_100, 9_999_999_049),
+    (ADD, 9_999_999_999, 4_999_999_991),
+    // Below the range by the loss of digits.
+    (SUB, 1_000_000_100, 1_000_000_000),
+    // Half a unit below a power of ten.
+    (SUB, 1_000_000_050, 5_000_000_041),
+    (SUB, 1_000_000_050, 5_000_000_141),
+    (DIV, 1_000_000_000, 1_000_000_051),
+    (NGMPY, 9_999_999_999, 9_999_999_999),
+    (NGMPY, 0, 11_000_000_050),
+    // Words that are no numbers, minus zero among them, and numbers that are no words.
+    (ADD, MINUS, 0),
+    (SUB, 0, MINUS),
+    (MPY, 999_999_999, 1_000_000_050),
+    (DIV, MINUS, 0),
+    (NGMPY, u64::MAX, 1_000_000_050),
+    (SQRT, MINUS, 0),
+    (SQRT, 11_000_000_050, 0),
+    (ABS, 19_999_999_999, 0),
+    (ABS, 20_000_000_000, 0),
+    (ABS, 2 * MINUS + 1_000_000_050, 0),
 ];
 
 /// How often each operation is drawn, in hundredths.
-const SHARES: [(u64, u64); 7] = [(ADD, 22), (SUB, 22), (MPY, 16), (DIV, 18), (NGMPY, 6), (SQRT, 12), (ABS, 4)];
+const SHARES: [(u64, u64); 7] =
+    [(ADD, 22), (SUB, 22), (MPY, 16), (DIV, 18), (NGMPY, 6), (SQRT, 12), (ABS, 4)];
 
 pub fn case(seed: u64, index: u64) -> Case {
     if let Some(&(operation, a, b)) = TABLE.get(index as usize) {
@@ -73,13 +98,15 @@ pub fn operands(operation: u64, chance: &mut Chance) -> (u64, u64) {
 }
 
 fn sum_operands(operation: u64, chance: &mut Chance) -> (u64, u64) {
-    match chance.below(8) {
+    let subtract = operation == SUB;
+    match chance.below(9) {
         0 => (any_number(chance), any_number(chance)),
         1 | 2 => shapes::close_exponents(chance),
         3 => shapes::far_exponents(chance),
-        4 | 5 => shapes::tie_of_sum(operation == SUB, chance),
-        6 => shapes::carry(operation == SUB, chance),
-        _ => shapes::cancellation(operation == SUB, chance),
+        4 | 5 => shapes::tie_of_sum(subtract, chance),
+        6 => shapes::carry(subtract, chance),
+        7 => shapes::just_below_a_power(subtract, chance),
+        _ => shapes::cancellation(subtract, chance),
     }
 }
 

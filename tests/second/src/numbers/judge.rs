@@ -6,8 +6,15 @@ use crate::files::Reading;
 use crate::verdict::Verdict;
 
 /// The stop numbers that each operation can answer, 0 being the answer with a word.
-const REACHABLE: [&[u64]; 7] =
-    [&[0, 24, 27], &[0, 24, 27], &[0, 24, 27], &[0, 24, 25, 27], &[0, 24, 27], &[0, 24, 26], &[0, 24]];
+const REACHABLE: [&[u64]; 7] = [
+    &[0, 24, 27],
+    &[0, 24, 27],
+    &[0, 24, 27],
+    &[0, 24, 25, 27],
+    &[0, 24, 27],
+    &[0, 24, 26],
+    &[0, 24],
+];
 
 /// Whether every answer is the model's, and everything that can be reached was.
 pub fn judge(seed: u64, count: u64, path: &str) -> bool {

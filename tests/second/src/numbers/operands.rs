@@ -59,7 +59,9 @@ pub fn stranger(chance: &mut Chance) -> u64 {
         4 => 2 * MINUS + chance.below(3),
         5 => 2 * MINUS + any_number(chance),
         6 => u64::MAX - chance.below(3),
-        7 => (chance.between(1, u32::MAX as u64) << 32) + any_number(chance) % (1 << 32) + 2 * MINUS,
+        7 => {
+            (chance.between(1, u32::MAX as u64) << 32) + any_number(chance) % (1 << 32) + 2 * MINUS
+        }
         _ => chance.next().max(2 * MINUS),
     }
 }

@@ -80,6 +80,15 @@ pub fn tie_of_sum(subtract: bool, chance: &mut Chance) -> (u64, u64) {
     }
 }
 
+/// A power of ten less a number far below it: the loss of a digit brings that number back into sight.
+pub fn just_below_a_power(subtract: bool, chance: &mut Chance) -> (u64, u64) {
+    let gap = chance.between(7, 10);
+    let (high, low) = exponents(chance, gap);
+    let minus = chance.percent(50);
+    let (a, b) = (number(minus, LEAST, high), number(minus == subtract, digits(chance), low));
+    shuffled(chance, a, b)
+}
+
 /// Nines that a small operand may push over a power of ten.
 pub fn carry(subtract: bool, chance: &mut Chance) -> (u64, u64) {
     let gap = chance.below(11);

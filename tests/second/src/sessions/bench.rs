@@ -44,12 +44,20 @@ impl Bench {
                 let (number, place) = load(cells, marks, deck, state, *traced != 0, witness);
                 Some(Outcome::Load { number, place })
             }
-            Message::Run { room, budget, stop } => Some(self.run(*room, *budget, *stop != 0, witness)),
+            Message::Run { room, budget, stop } => {
+                Some(self.run(*room, *budget, *stop != 0, witness))
+            }
             Message::EndOfSession | Message::EndOfStream => None,
         }
     }
 
-    fn run(&mut self, room: u64, budget: u64, stop: bool, witness: &mut dyn FnMut(Event)) -> Outcome {
+    fn run(
+        &mut self,
+        room: u64,
+        budget: u64,
+        stop: bool,
+        witness: &mut dyn FnMut(Event),
+    ) -> Outcome {
         let mut out = vec![UNTOUCHED; room as usize];
         let Bench { cells, marks, deck, state } = self;
         let lent = Run { cells, marks, deck, out: &mut out, state, budget, switch_on_stop: stop };
@@ -80,8 +88,17 @@ pub fn label(is_run: bool, index: usize, length: usize) -> String {
     } else {
         &["number", "place"]
     };
-    const STATE: [&str; 9] =
-        ["location", "box A", "box B", "box C", "card counter", "problem number", "reader", "mode", "tracing"];
+    const STATE: [&str; 9] = [
+        "location",
+        "box A",
+        "box B",
+        "box C",
+        "card counter",
+        "problem number",
+        "reader",
+        "mode",
+        "tracing",
+    ];
     if let Some(head) = heads.get(index) {
         return head.to_string();
     }

@@ -30,7 +30,8 @@ impl Coverage {
     /// Prints all that was covered and requires all that can be.
     pub fn tell(&self, verdict: &mut Verdict) {
         for (o1, o2, code, name) in BUILT {
-            let operation = if (1..=5).contains(&o1) { format!("{o1}") } else { format!("{o1} {o2:03}") };
+            let operation =
+                if (1..=5).contains(&o1) { format!("{o1}") } else { format!("{o1} {o2:03}") };
             println!("covered: {operation} {name}: {}", self.of_code(code));
         }
         let completed = self.times(|event| matches!(event, Event::Completed { .. }));
@@ -53,7 +54,8 @@ impl Coverage {
             })
         });
         let [plain, off, on] = completed;
-        let mut told = format!("completed {} (plain {plain}, tracing off {off}, on {on})", plain + off + on);
+        let mut told =
+            format!("completed {} (plain {plain}, tracing off {off}, on {on})", plain + off + on);
         let mut refused: BTreeMap<u64, u64> = BTreeMap::new();
         for (event, times) in &self.events {
             if let Event::OrderRefused { code, reason, .. } = event {

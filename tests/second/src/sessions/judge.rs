@@ -34,10 +34,12 @@ pub fn judge(seed: u64, count: u64, path: &str) -> bool {
     for index in 0..count {
         let first = session(seed, index);
         let second = twin_of(&first, seed, index);
-        let both = answered(&first, &mut answers, &mut coverage)
-            .and_then(|one| Some((one, answered(&second, &mut answers, &mut Coverage::default())?)));
+        let both = answered(&first, &mut answers, &mut coverage).and_then(|one| {
+            Some((one, answered(&second, &mut answers, &mut Coverage::default())?))
+        });
         let Some((one, other)) = both else {
-            verdict.difference(|| format!("session {index}: the answers end within it or its twin"));
+            verdict
+                .difference(|| format!("session {index}: the answers end within it or its twin"));
             break;
         };
         compare(&format!("session {index}"), &one, &first, &mut verdict);
@@ -53,7 +55,11 @@ pub fn judge(seed: u64, count: u64, path: &str) -> bool {
 }
 
 /// Does a session on the model and reads as much for each call as the model answers.
-fn answered(session: &[Message], answers: &mut Reading, coverage: &mut Coverage) -> Option<Vec<Answered>> {
+fn answered(
+    session: &[Message],
+    answers: &mut Reading,
+    coverage: &mut Coverage,
+) -> Option<Vec<Answered>> {
     let mut bench = Bench::default();
     let mut all = Vec::new();
     for (message, asked) in session.iter().enumerate() {
@@ -77,7 +83,9 @@ fn compare(name: &str, calls: &[Answered], session: &[Message], verdict: &mut Ve
         verdict.difference(|| {
             let differing: Vec<String> = (0..due.len())
                 .filter(|&i| due[i] != got[i])
-                .map(|i| format!("{}: model {}, answer {}", label(*is_run, i, due.len()), due[i], got[i]))
+                .map(|i| {
+                    format!("{}: model {}, answer {}", label(*is_run, i, due.len()), due[i], got[i])
+                })
                 .collect();
             format!("{name}, message {message} ({:?}): {}", session[*message], differing.join("; "))
         });
@@ -90,11 +98,15 @@ fn compare(name: &str, calls: &[Answered], session: &[Message], verdict: &mut Ve
 fn compare_twins(index: u64, one: &[Answered], other: &[Answered], verdict: &mut Verdict) {
     for (x, y) in one.iter().zip(other) {
         if Answered::without_drum(&x.got) != Answered::without_drum(&y.got) {
-            verdict.difference(|| format!("session {index} and its twin answer message {} differently", x.message));
+            verdict.difference(|| {
+                format!("session {index} and its twin answer message {} differently", x.message)
+            });
             return;
         }
         if Answered::without_drum(&x.due) != Answered::without_drum(&y.due) {
-            verdict.difference(|| format!("the model tells session {index} from its twin at message {}", x.message));
+            verdict.difference(|| {
+                format!("the model tells session {index} from its twin at message {}", x.message)
+            });
             return;
         }
     }

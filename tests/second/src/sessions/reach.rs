@@ -27,7 +27,12 @@ fn refusals(code: Code) -> Vec<Reason> {
     use Reason::*;
     match code {
         Code::OfTwo(operation) => {
-            let mut reasons = vec![Unmarked(Field::A), Unmarked(Field::B), NotNumber(Field::A), NotNumber(Field::B)];
+            let mut reasons = vec![
+                Unmarked(Field::A),
+                Unmarked(Field::B),
+                NotNumber(Field::A),
+                NotNumber(Field::B),
+            ];
             reasons.extend([Range(OutOfRange::Below), Range(OutOfRange::Above)]);
             if operation == OfTwo::Div {
                 reasons.push(ZeroDivisor);
@@ -63,11 +68,19 @@ pub fn of_orders() -> Vec<Event> {
             }
             // In traced mode PCH refuses nothing.
             if code != Code::Pch || tracing == Tracing::Plain {
-                events.extend(refusals(code).into_iter().map(|reason| Event::OrderRefused { code, reason, tracing }));
+                events.extend(refusals(code).into_iter().map(|reason| Event::OrderRefused {
+                    code,
+                    reason,
+                    tracing,
+                }));
             }
         }
-        let mut early =
-            vec![Reason::Location000, Reason::LocationPast999, Reason::OrderUnmarked, Reason::NotBuilt];
+        let mut early = vec![
+            Reason::Location000,
+            Reason::LocationPast999,
+            Reason::OrderUnmarked,
+            Reason::NotBuilt,
+        ];
         early.extend(FIELDS.map(Reason::SumAbove999));
         if tracing == Tracing::On {
             early.push(Reason::NoRoomForTrace);
@@ -108,7 +121,12 @@ pub const LINES_OF_12: [Reason; 12] = [
 
 /// What a call as a whole can come to.
 pub fn of_calls() -> Vec<Event> {
-    let mut both = vec![Reason::DrumLength, Reason::MarksLength, Reason::MarkAboveOne, Reason::MarkedCellNoWord];
+    let mut both = vec![
+        Reason::DrumLength,
+        Reason::MarksLength,
+        Reason::MarkAboveOne,
+        Reason::MarkedCellNoWord,
+    ];
     both.extend(FAULTS.map(Reason::Deck));
     both.push(Reason::StateLength);
     let mut events: Vec<Event> = both.iter().map(|&reason| Event::LoadRefused(reason)).collect();

@@ -24,7 +24,8 @@ fn exchange(begin: &Begin, chance: &mut Chance) -> Begin {
             // With another fill, every marked cell needs a pair to keep its number.
             let old = begin.cells.all();
             let marked = (0..*length).filter(|&cell| !unmarked(cell));
-            let mut pairs: Vec<(u64, u64)> = marked.map(|cell| (cell, old[cell as usize])).collect();
+            let mut pairs: Vec<(u64, u64)> =
+                marked.map(|cell| (cell, old[cell as usize])).collect();
             for cell in begin.cells.named().into_iter().filter(|&cell| unmarked(cell)) {
                 pairs.push((cell, any(chance)));
             }

@@ -35,8 +35,12 @@ pub fn pch(order: Order, view: &View) -> Result<Effects, Reason> {
     let mut location = order.b;
     for words in words.chunks(5) {
         state.counter = next_counter(state.counter);
-        let card =
-            DataCard { number: state.counter, location, words: words.to_vec(), problem: state.problem };
+        let card = DataCard {
+            number: state.counter,
+            location,
+            words: words.to_vec(),
+            problem: state.problem,
+        };
         punched += &card.text();
         location += words.len() as u64;
     }

@@ -29,14 +29,26 @@ fn lines_of_10() {
 
 #[test]
 fn lines_of_12() {
-    let broken = [(0, 1_001), (1, 1_000), (2, 1_000), (3, 1_000), (4, 10_000), (5, 1_000), (7, 2), (8, 2), (8, 1)];
+    let broken = [
+        (0, 1_001),
+        (1, 1_000),
+        (2, 1_000),
+        (3, 1_000),
+        (4, 10_000),
+        (5, 1_000),
+        (7, 2),
+        (8, 2),
+        (8, 1),
+    ];
     for (at, value) in broken {
         assert_eq!(number_of_run(|job| job.state[at] = value), 12, "state {at}");
     }
     assert_eq!(number_of_run(|job| job.marks[0] = 0), 12);
     assert_eq!(number_of_run(|job| job.state.push(0)), 12);
     assert_eq!(number_of_run(|job| job.state.truncate(8)), 12);
-    for (reader, number) in [(0, 12), (22, 12), (28, 12), (29, 2), (30, 12), (51, 2), (52, 12), (u64::MAX, 12)] {
+    for (reader, number) in
+        [(0, 12), (22, 12), (28, 12), (29, 2), (30, 12), (51, 2), (52, 12), (u64::MAX, 12)]
+    {
         assert_eq!(number_of_run(|job| job.state[6] = reader), number, "reader {reader}");
     }
 }
@@ -78,7 +90,10 @@ fn load_judges_no_state_and_gives_it_back_when_it_refuses() {
     job.marks[0] = 0;
     assert_eq!(job.load(true), (0, 0));
     assert_eq!(job.state, [101, 0, 0, 0, 0, 7, 29, 1, 1]);
-    assert_eq!((job.word(0), job.word(500)), ("+0000000000".to_string(), "+0000000001".to_string()));
+    assert_eq!(
+        (job.word(0), job.word(500)),
+        ("+0000000000".to_string(), "+0000000001".to_string())
+    );
     job.state = vec![7; 10];
     assert_eq!((job.load(false), job.state), ((12, 0), vec![7; 10]));
 }
@@ -88,6 +103,9 @@ fn load_keeps_other_cells_and_lets_later_words_win() {
     let mut job = Job::new().with(700, &["-7777777777"]);
     job.deck = "20000500+0000000001+000000000200010000501-0000000003000T501999".to_string();
     assert_eq!(job.load(false), (0, 0));
-    assert_eq!((job.word(700), job.word(501)), ("-7777777777".to_string(), "-0000000003".to_string()));
+    assert_eq!(
+        (job.word(700), job.word(501)),
+        ("-7777777777".to_string(), "-0000000003".to_string())
+    );
     assert_eq!((job.marks[502], job.cells[502]), (0, super::STRAY));
 }

@@ -21,7 +21,10 @@ fn marks_before_numbers() {
     assert_eq!(one(&mut job().with(200, &["+1000000050", "-0000000000"])), (24, 0));
     let mut good = job().with(200, &["+1000000050", "+0000000000"]);
     assert_eq!(one(&mut good), (2, 1));
-    assert_eq!((good.word(202), good.word(0)), ("+1000000050".to_string(), "+1000000050".to_string()));
+    assert_eq!(
+        (good.word(202), good.word(0)),
+        ("+1000000050".to_string(), "+1000000050".to_string())
+    );
 }
 
 #[test]
@@ -100,7 +103,10 @@ fn address_orders() {
 fn stops() {
     let mut job = Job::new().with(101, &["+0200300500"]).with(300, &["-0000000000"]);
     let ended = job.run_with(1, true);
-    assert_eq!((ended.number, ended.count, ended.shown, job.location()), (1, 1, 10_000_000_000, 500));
+    assert_eq!(
+        (ended.number, ended.count, ended.shown, job.location()),
+        (1, 1, 10_000_000_000, 500)
+    );
     let mut job = Job::new().with(101, &["+0200300500"]);
     let ended = job.run_with(1, true);
     assert_eq!((ended.number, ended.count, ended.shown, job.location()), (1, 1, 0, 500));
@@ -108,12 +114,16 @@ fn stops() {
     assert_eq!((one(&mut job), job.location()), ((2, 1), 500));
     let mut job = Job::new().with(101, &["+0000000000"]).with(0, &["-1234567890"]);
     let ended = job.run(5);
-    assert_eq!((ended.number, ended.count, ended.shown, job.location()), (0, 1, 11_234_567_890, 101));
+    assert_eq!(
+        (ended.number, ended.count, ended.shown, job.location()),
+        (0, 1, 11_234_567_890, 101)
+    );
 }
 
 #[test]
 fn pch_numbers_its_cards_and_fits_all_or_none() {
-    let words = ["+0000000001", "-0000000002", "+0000000003", "+0000000004", "+0000000005", "+0000000006"];
+    let words =
+        ["+0000000001", "-0000000002", "+0000000003", "+0000000004", "+0000000005", "+0000000006"];
     let job = |room| {
         let mut job = Job::new().with(101, &["+0410200205"]).with(200, &words).with_room(room);
         job.state[4] = 9_998;
@@ -122,7 +132,8 @@ fn pch_numbers_its_cards_and_fits_all_or_none() {
     assert_eq!(one(&mut job(87)), (22, 0));
     let mut good = job(88);
     let ended = good.run(1);
-    let due = "59999200+0000000001-0000000002+0000000003+0000000004+000000000500710000205+0000000006007";
+    let due =
+        "59999200+0000000001-0000000002+0000000003+0000000004+000000000500710000205+0000000006007";
     assert_eq!((ended.number, good.written(ended), good.state[4]), (2, due, 0));
     assert_eq!(one(&mut Job::new().with(101, &["+0410000205"])), (20, 0));
     assert_eq!(one(&mut Job::new().with(101, &["+0410200199"])), (20, 0));
@@ -138,7 +149,10 @@ fn read_takes_all_cards_or_none() {
     };
     let (answer, job) = run("+0400300302", cards);
     assert_eq!((answer, job.state[6]), ((2, 1), 62));
-    assert_eq!((job.word(301), job.word(302)), ("-0000000002".to_string(), "+0000000003".to_string()));
+    assert_eq!(
+        (job.word(301), job.word(302)),
+        ("-0000000002".to_string(), "+0000000003".to_string())
+    );
     assert_eq!(run("+0400300301", cards).1.state[6], 40);
     assert_eq!(run("+0400300300", cards).0, (28, 0));
     assert_eq!(run("+0400301302", cards).0, (28, 0));

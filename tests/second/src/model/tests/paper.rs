@@ -16,7 +16,10 @@ fn the_session_of_the_paper() {
     assert_eq!(ended, Ended { number: 0, place: 0, count: 3, shown: 3_000_000_050, written: 22 });
     assert_eq!(job.written(ended), "10001202+3000000050007");
     assert_eq!(job.location(), 103);
-    assert_eq!((job.word(202), job.word(0)), ("+3000000050".to_string(), "+3000000050".to_string()));
+    assert_eq!(
+        (job.word(202), job.word(0)),
+        ("+3000000050".to_string(), "+3000000050".to_string())
+    );
     // Z 00 0103 000003 +3000000050 is what the program around it makes of this.
     assert_eq!(job.run(1), Ended { written: 0, count: 1, ..ended });
 }

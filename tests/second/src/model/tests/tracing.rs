@@ -15,7 +15,8 @@ fn the_six_words() {
 #[test]
 fn words_of_a_and_b() {
     // A of 000 gives plus zero, B of 000 gives cell 000, unmarked cells give plus zero.
-    let mut job = Job::traced().with(0, &["-0000000000"]).with(101, &["+9000000005", "+9005500600"]);
+    let mut job =
+        Job::traced().with(0, &["-0000000000"]).with(101, &["+9000000005", "+9005500600"]);
     let ended = job.run(2);
     assert_eq!((ended.number, ended.count, ended.written), (23, 1, 154));
     let cards = job.written(ended);
@@ -52,7 +53,8 @@ fn pch_is_noop_in_traced_mode_even_with_tracing_off() {
 
 #[test]
 fn tracing_turns_with_the_next_order() {
-    let program = ["+0451000000", "+0454000000", "+0450000000", "+0454000000", "+0451000000", "-0452111222"];
+    let program =
+        ["+0451000000", "+0454000000", "+0450000000", "+0454000000", "+0451000000", "-0452111222"];
     let mut job = Job::traced().with(101, &program);
     let ended = job.run(6);
     assert_eq!((ended.number, ended.count, ended.written / 77), (2, 6, 3));

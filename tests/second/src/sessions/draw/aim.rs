@@ -2,14 +2,16 @@
 
 use super::block;
 use super::draft::Draft;
+use super::parts::{any_address, before, built, marked, not_built, result_cell, shown_cell};
+use super::parts::{strange_word, unmarked};
 use crate::chance::Chance;
 use crate::decks::build::any_word;
 use crate::model::event::{Event, Tracing, Way};
 use crate::model::operation::{OfOne, OfTwo};
-use crate::model::order::{code, Code, Order, BUILT};
+use crate::model::order::{Code, Order};
 use crate::model::stop::{Field, Reason};
 use crate::model::word::{Word, MINUS};
-use crate::numbers::{any_number, operands_for, stranger};
+use crate::numbers::{any_number, operands_for};
 
 /// An order as it is to be done, and its surroundings.
 pub struct Aimed {
@@ -25,65 +27,9 @@ pub struct Aimed {
     pub room: Option<u64>,
 }
 
-/// An order of a built code with these addresses.
-pub fn built(wanted: Code, a: u64, b: u64, c: u64) -> Order {
-    let (o1, o2, _, _) = BUILT.into_iter().find(|(_, _, code, _)| *code == wanted).expect("a built code");
-    let a = if (1..=5).contains(&o1) { a } else { o2 };
-    Order { minus: false, o1, a, b, c }
-}
-
 impl Aimed {
     pub fn of(order: Order) -> Aimed {
         Aimed { order, lead: None, deck: None, switch_on_stop: false, counts: None, room: None }
-    }
-}
-
-/// Any address, the ends more often than others.
-pub fn any_address(chance: &mut Chance) -> u64 {
-    match chance.below(8) {
-        0 => chance.pick(&[0, 1, 998, 999]),
-        _ => chance.below(1_000),
-    }
-}
-
-/// A cell that is not marked, holding something that looks good half of the time.
-pub fn unmarked(draft: &mut Draft, chance: &mut Chance) -> u64 {
-    let cell = draft.free(1, chance);
-    if chance.percent(50) {
-        let tempting = chance.pick(&[454_000_000, 1_000_000_050, 203_000_001, 0]);
-        draft.values.insert(cell, tempting);
-    }
-    cell
-}
-
-fn marked(word: Word, draft: &mut Draft, chance: &mut Chance) -> u64 {
-    draft.free_word(word, chance)
-}
-
-/// A word, but not a number.
-pub fn strange_word(chance: &mut Chance) -> Word {
-    loop {
-        if let Some(word) = Word::of_cell(stranger(chance)) {
-            return word;
-        }
-    }
-}
-
-/// What a stop may show: a marked cell, an unmarked one, or 000.
-fn shown_cell(draft: &mut Draft, chance: &mut Chance) -> u64 {
-    match chance.below(4) {
-        0 => 0,
-        1 => unmarked(draft, chance),
-        _ => marked(any_word(chance), draft, chance),
-    }
-}
-
-/// Where a result may go: 000, an unmarked cell, a marked one.
-fn result_cell(draft: &mut Draft, chance: &mut Chance) -> u64 {
-    match chance.below(4) {
-        0 => 0,
-        1 => marked(any_word(chance), draft, chance),
-        _ => unmarked(draft, chance),
     }
 }
 
@@ -105,7 +51,14 @@ fn number_of(operation: OfTwo) -> u64 {
     operation as u64
 }
 
-fn completed(code: Code, way: Way, stopped: bool, traced: bool, draft: &mut Draft, chance: &mut Chance) -> Aimed {
+fn completed(
+    code: Code,
+    way: Way,
+    stopped: bool,
+    traced: bool,
+    draft: &mut Draft,
+    chance: &mut Chance,
+) -> Aimed {
     match code {
         Code::OfTwo(operation) => {
             let words = operands_for(number_of(operation), chance, |outcome| outcome.is_ok());
@@ -131,7 +84,10 @@ fn completed(code: Code, way: Way, stopped: bool, traced: bool, draft: &mut Draf
                 (false, 0) => Word { minus: chance.percent(70), digits },
                 (false, digits) => Word { minus: false, digits },
             };
-            Aimed { lead: Some(word), ..Aimed::of(built(code, 0, any_address(chance), any_address(chance))) }
+            Aimed {
+                lead: Some(word),
+                ..Aimed::of(built(code, 0, any_address(chance), any_address(chance)))
+            }
         }
         Code::TrExp => {
             let word = any_word(chance);
@@ -174,12 +130,22 @@ fn of_one(operation: OfOne, word: Word, draft: &mut Draft, chance: &mut Chance) 
 }
 
 /// The largest named count, once raised, is below B or not; now and then by as little as can be.
-fn loop_aim(code: Code, named: [bool; 3], again: bool, modified: bool, chance: &mut Chance) -> Aimed {
+fn loop_aim(
+    code: Code,
+    named: [bool; 3],
+    again: bool,
+    modified: bool,
+    chance: &mut Chance,
+) -> Aimed {
     loop {
         let most = chance.pick(&[1, 4, 999]);
         let most = if again { most.min(997) } else { most };
-        let counts = [0; 3].map(|_| chance.below(most + 1));
-        let raised = (0..3).filter(|&i| named[i]).map(|i| counts[i] + 1).max().expect("a loop names a count");
+        let counts = [0; 3].map(|_| if chance.one_in(4) { most } else { chance.below(most + 1) });
+        let raised = (0..3)
+            .filter(|&i| named[i])
+            .map(|i| counts[i] + 1)
+            .max()
+            .expect("a loop names a count");
         let b = match (again, chance.percent(50)) {
             (true, true) => raised + 1,
             (true, false) => chance.between(raised + 1, 999),
@@ -193,29 +159,26 @@ fn loop_aim(code: Code, named: [bool; 3], again: bool, modified: bool, chance: &
     }
 }
 
-/// The minus order that these counts make into `done`, if there is one and it is another.
-pub fn before(done: Order, counts: [u64; 3]) -> Option<Order> {
-    let [a, b, c] = counts;
-    let a = done.a.checked_sub(a)?;
-    let (b, c) = (done.b.checked_sub(b)?, done.c.checked_sub(c)?);
-    (counts != [0; 3]).then_some(Order { minus: true, o1: done.o1, a, b, c })
-}
-
 fn refused(code: Code, reason: Reason, draft: &mut Draft, chance: &mut Chance) -> Aimed {
     match (code, reason) {
         (Code::OfTwo(operation), Reason::Unmarked(_) | Reason::NotNumber(_)) => {
             bad_operand(operation, reason, draft, chance)
         }
         (Code::OfTwo(operation), _) => {
-            let words = operands_for(number_of(operation), chance, |outcome| outcome == Err(reason));
+            let words =
+                operands_for(number_of(operation), chance, |outcome| outcome == Err(reason));
             of_two(operation, words, draft, chance)
         }
-        (Code::OfOne(operation), Reason::NotNumber(_)) => of_one(operation, strange_word(chance), draft, chance),
+        (Code::OfOne(operation), Reason::NotNumber(_)) => {
+            of_one(operation, strange_word(chance), draft, chance)
+        }
         (Code::OfOne(operation), Reason::NegativeRoot) => {
             let word = operands_for(5, chance, |outcome| outcome == Err(reason)).0;
             of_one(operation, word, draft, chance)
         }
-        (Code::TrSubr, Reason::SubroutineAt000) => Aimed::of(built(code, 0, any_address(chance), 0)),
+        (Code::TrSubr, Reason::SubroutineAt000) => {
+            Aimed::of(built(code, 0, any_address(chance), 0))
+        }
         (Code::TrSubr, _) => {
             let c = unmarked(draft, chance);
             Aimed::of(built(code, 0, any_address(chance), c))
@@ -233,11 +196,13 @@ fn refused(code: Code, reason: Reason, draft: &mut Draft, chance: &mut Chance) -
 /// One operand is as the reason says; the other may be good, or bad in a way that is judged later.
 fn bad_operand(operation: OfTwo, reason: Reason, draft: &mut Draft, chance: &mut Chance) -> Aimed {
     let good = |chance: &mut Chance| Word::of_cell(any_number(chance)).expect("a number is a word");
-    let any = |chance: &mut Chance| if chance.percent(50) { good(chance) } else { strange_word(chance) };
+    let any =
+        |chance: &mut Chance| if chance.percent(50) { good(chance) } else { strange_word(chance) };
     let (a, b) = match reason {
         Reason::Unmarked(Field::A) => {
             let b = any(chance);
-            let b = if chance.percent(50) { unmarked(draft, chance) } else { marked(b, draft, chance) };
+            let b =
+                if chance.percent(50) { unmarked(draft, chance) } else { marked(b, draft, chance) };
             (unmarked(draft, chance), b)
         }
         Reason::Unmarked(_) => (marked(any(chance), draft, chance), unmarked(draft, chance)),
@@ -247,21 +212,4 @@ fn bad_operand(operation: OfTwo, reason: Reason, draft: &mut Draft, chance: &mut
         _ => (marked(good(chance), draft, chance), marked(strange_word(chance), draft, chance)),
     };
     Aimed::of(built(Code::OfTwo(operation), a, b, result_cell(draft, chance)))
-}
-
-/// Codes that the paper names as not built, codes next to built ones, any other.
-fn not_built(chance: &mut Chance) -> Order {
-    loop {
-        let (o1, a) = match chance.below(6) {
-            0 => (0, chance.pick(&[401, 205, 453, 455, 301, 302, 303, 304, 305, 351, 352, 353, 354, 355])),
-            1 => (0, chance.pick(&[2, 3, 4, 8, 9, 12, 20, 51, 55, 61, 102, 112, 120, 199, 206, 299, 349, 501, 550, 800])),
-            2 => (chance.between(6, 8), any_address(chance)),
-            3 => (9, chance.between(1, 999)),
-            _ => (0, chance.below(1_000)),
-        };
-        let order = Order { minus: false, o1, a, b: any_address(chance), c: any_address(chance) };
-        if code(order).is_none() {
-            return order;
-        }
-    }
 }

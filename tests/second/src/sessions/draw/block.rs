@@ -1,7 +1,8 @@
 //! Aims at PCH and READ: blocks of cells, and cards that fit them or do not.
 
-use super::aim::{any_address, built, Aimed};
+use super::aim::Aimed;
 use super::draft::Draft;
+use super::parts::{any_address, built};
 use crate::chance::Chance;
 use crate::decks::build::{any_card, any_cards, any_word, transfer_card};
 use crate::model::card::DataCard;
@@ -73,11 +74,18 @@ pub fn not_punched(reason: Reason, draft: &mut Draft, chance: &mut Chance) -> Ai
 /// READ of a block: its cards fit, or the first or a later one fails as the reason says.
 pub fn read(reason: Option<Reason>, draft: &mut Draft, chance: &mut Chance) -> Aimed {
     if let Some(reason @ (Reason::BlockFrom000 | Reason::BlockBackward)) = reason {
-        return Aimed { deck: Some(around(Vec::new(), false, chance)), ..bad_block(Code::Read, reason, chance) };
+        return Aimed {
+            deck: Some(around(Vec::new(), false, chance)),
+            ..bad_block(Code::Read, reason, chance)
+        };
     }
     let later = matches!(
         reason,
-        Some(Reason::CardElsewhere(Turn::Later) | Reason::CardPastBlock(Turn::Later) | Reason::NoCard(Turn::Later))
+        Some(
+            Reason::CardElsewhere(Turn::Later)
+                | Reason::CardPastBlock(Turn::Later)
+                | Reason::NoCard(Turn::Later)
+        )
     );
     let past = matches!(reason, Some(Reason::CardPastBlock(_)));
     let length = match (past, later) {
@@ -107,7 +115,10 @@ pub fn read(reason: Option<Reason>, draft: &mut Draft, chance: &mut Chance) -> A
     }
     let ends = matches!(reason, Some(Reason::NoCard(_)));
     let last = start + length - 1;
-    Aimed { deck: Some(around(cards, ends, chance)), ..Aimed::of(built(Code::Read, 0, start, last)) }
+    Aimed {
+        deck: Some(around(cards, ends, chance)),
+        ..Aimed::of(built(Code::Read, 0, start, last))
+    }
 }
 
 /// Cards of chance that fill the block. If a later one is to fail, there are at least two, and the

@@ -79,7 +79,9 @@ impl Draft {
 
     /// Ends the layout. A few drums are sent in full.
     pub fn begin(&mut self, state: Vec<u64>, chance: &mut Chance) {
-        let within = |map: &BTreeMap<u64, u64>, length: u64| map.range(..length).map(|(&i, &v)| (i, v)).collect();
+        let within = |map: &BTreeMap<u64, u64>, length: u64| {
+            map.range(..length).map(|(&i, &v)| (i, v)).collect()
+        };
         let pairs = within(&self.values, self.cells_length);
         let mut cells = Cells::Sparse { length: self.cells_length, fill: self.fill, pairs };
         let pairs = within(&self.marks, self.marks_length);

@@ -1,8 +1,8 @@
 //! Sessions aimed at what a call as a whole comes to: 10, 11, 12 at load and at run, one line at a
 //! time or several at once, and that nothing is changed by them.
 
-use super::aim::built;
 use super::draft::Draft;
+use super::parts::built;
 use crate::chance::Chance;
 use crate::decks::build::{any_word, Cards};
 use crate::decks::with_fault;
@@ -25,7 +25,9 @@ pub fn session(event: Event, chance: &mut Chance) -> Vec<Message> {
     let good = furnish(&mut draft, chance);
     let mut bad = Given { deck: good.deck.clone(), state: good.state.clone(), budget: good.budget };
     match event {
-        Event::LoadRefused(reason) | Event::RunRefused(reason) => break_line(reason, &mut draft, &mut bad, chance),
+        Event::LoadRefused(reason) | Event::RunRefused(reason) => {
+            break_line(reason, &mut draft, &mut bad, chance)
+        }
         Event::RunRefusedForSeveral => {
             let (first, step) = (chance.index(12), chance.pick(&[1, 5, 7]));
             for turn in 0..chance.index(3) + 2 {
@@ -107,6 +109,7 @@ fn break_more(event: Event, draft: &mut Draft, bad: &mut Given, chance: &mut Cha
     }
     if number < 12 {
         let line = chance.pick(&LINES_OF_12);
+        let line = if chance.one_in(3) { Reason::StateLength } else { line };
         break_line(line, draft, bad, chance);
     }
 }
@@ -116,24 +119,35 @@ fn above(bound: u64, chance: &mut Chance) -> u64 {
     chance.pick(&[bound + 1, bound + 1, bound + (1 << 32), u64::MAX])
 }
 
+/// Any cell of the drum, its first and last more often than others.
+fn any_cell(chance: &mut Chance) -> u64 {
+    match chance.below(4) {
+        0 => 0,
+        1 => 999,
+        _ => chance.below(1_000),
+    }
+}
+
 fn break_line(reason: Reason, draft: &mut Draft, bad: &mut Given, chance: &mut Chance) {
     let state = &mut bad.state;
     match reason {
         Reason::DrumLength => draft.cells_length = chance.pick(&[0, 1, 999, 1_001, 1_500]),
         Reason::MarksLength => draft.marks_length = chance.pick(&[0, 1, 999, 1_001, 1_500]),
         Reason::MarkAboveOne => {
-            let cell = chance.below(1_000);
+            let cell = any_cell(chance);
             draft.marks.insert(cell, chance.pick(&[2, 3, 128, 255, 254]));
             draft.values.entry(cell).or_insert(chance.next());
         }
         Reason::MarkedCellNoWord => {
-            let cell = chance.below(1_000);
+            let cell = any_cell(chance);
             draft.put(cell, any_word(chance));
             let value = chance.pick(&[20_000_000_000, 20_000_000_001, 1 << 63, u64::MAX]);
             draft.values.insert(cell, value);
         }
         // Over-long decks make long files, so they are rare here.
-        Reason::Deck(Fault::TooLong) if !chance.one_in(12) => bad.deck = with_fault(Fault::NoT, chance),
+        Reason::Deck(Fault::TooLong) if !chance.one_in(12) => {
+            bad.deck = with_fault(Fault::NoT, chance)
+        }
         Reason::Deck(fault) => bad.deck = with_fault(fault, chance),
         Reason::StateLength => {
             let length = chance.pick(&[0, 1, 8, 10, 20]);

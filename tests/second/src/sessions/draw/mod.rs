@@ -5,6 +5,7 @@ mod block;
 mod draft;
 mod hostile;
 mod named;
+mod parts;
 mod probe;
 mod program;
 mod room;

@@ -64,7 +64,9 @@ fn the_longest_deck(draft: &mut Draft, chance: &mut Chance) {
     draft.deck(longest(chance).bytes());
     draft.load(0);
     draft.run(1_000, 100, 0);
-    let cards: String = (0..992).map(|_| "50000001+0000000001-0000000002+0000000003+0000000004+9999999999000").collect();
+    let cards: String = (0..992)
+        .map(|_| "50000001+0000000001-0000000002+0000000003+0000000004+9999999999000")
+        .collect();
     draft.deck(format!("T500000{cards}"));
     draft.load(0);
     let state = draft.state().to_vec();

@@ -1,13 +1,13 @@
 //! Sessions of probes: each probe is a short run that is aimed at one event.
 
-use super::aim::{aim, any_address, before, built, unmarked, Aimed};
+use super::aim::{aim, Aimed};
 use super::draft::Draft;
+use super::parts::{any_address, before, built, unmarked};
 use crate::chance::Chance;
-use crate::decks::build::Cards;
+use crate::decks::build::{any_word, Cards};
 use crate::model::event::{Event, Tracing};
-use crate::model::order::{Code, Order};
+use crate::model::order::{Code, Order, BUILT};
 use crate::model::stop::{Field, Reason};
-use crate::model::word::Word;
 use crate::sessions::message::Message;
 
 /// How many probes share a drum.
@@ -48,7 +48,17 @@ pub fn session(events: &[Event], chance: &mut Chance) -> Vec<Message> {
         let tracing = (probe.tracing == Tracing::On) as u64;
         let [a, b, c] = probe.counts;
         let counter = chance.pick(&[0, 1, 9_998, 9_999, 1_234]);
-        draft.set_state([probe.location, a, b, c, counter, chance.below(1_000), reader, mode, tracing]);
+        draft.set_state([
+            probe.location,
+            a,
+            b,
+            c,
+            counter,
+            chance.below(1_000),
+            reader,
+            mode,
+            tracing,
+        ]);
         play(&probe, draft, chance);
     }
     std::mem::replace(draft, Draft::new(chance)).finish()
@@ -73,7 +83,9 @@ fn play(probe: &Probe, draft: &mut Draft, chance: &mut Chance) {
 fn laid_out(event: Event, draft: &mut Draft, chance: &mut Chance) -> Probe {
     let (tracing, modified) = match event {
         Event::Completed { tracing, modified, .. } => (tracing, modified),
-        Event::OrderRefused { tracing, .. } | Event::Refused { tracing, .. } => (tracing, chance.one_in(4)),
+        Event::OrderRefused { tracing, .. } | Event::Refused { tracing, .. } => {
+            (tracing, chance.one_in(4))
+        }
         _ => panic!("a probe is aimed at what an order comes to"),
     };
     let aimed = aim(event, draft, chance);
@@ -85,7 +97,13 @@ fn laid_out(event: Event, draft: &mut Draft, chance: &mut Chance) -> Probe {
 }
 
 /// Puts the order, and one that leads to it if needed, into cells of their own.
-fn placed(aimed: Aimed, modified: bool, tracing: Tracing, draft: &mut Draft, chance: &mut Chance) -> Probe {
+fn placed(
+    aimed: Aimed,
+    modified: bool,
+    tracing: Tracing,
+    draft: &mut Draft,
+    chance: &mut Chance,
+) -> Probe {
     let leading = aimed.lead.is_some() as u64;
     let location = draft.free(leading + 1, chance);
     if let Some(word) = aimed.lead {
@@ -161,19 +179,29 @@ fn go_on_behind(probe: &mut Probe) {
     probe.room += TRACE_CARD;
 }
 
-/// One of the three sums passes 999, by one or by more; those before it do not.
+/// One of the three sums passes 999, by one or by more, whether the order uses that address or not;
+/// the sums before it do not.
 fn sum_above_999(probe: &mut Probe, field: Field, draft: &mut Draft, chance: &mut Chance) {
-    let digits = chance.below(1_000_000_000) + chance.pick(&[0, 0, 1, 2, 9]) * 1_000_000_000;
-    let mut order = Order::of_word(Word { minus: true, digits });
-    let address = chance.between(1, 999);
-    order = order.with_address(field, address);
-    let count = if chance.percent(50) { 1_000 - address } else { chance.between(1_000 - address, 999) };
-    let fitting = |address: u64, chance: &mut Chance| chance.below(1_000 - address);
-    let any = |chance: &mut Chance| chance.below(1_000);
+    let order = loop {
+        let (_, _, code, _) = chance.pick(&BUILT);
+        let mut order = built(code, any_address(chance), any_address(chance), any_address(chance));
+        if chance.one_in(4) {
+            order = Order::of_word(any_word(chance));
+        }
+        if order.address(field) > 0 {
+            break Order { minus: true, ..order };
+        }
+    };
+    let address = order.address(field);
+    let count =
+        if chance.percent(50) { 1_000 - address } else { chance.between(1_000 - address, 999) };
+    let mut fitting =
+        |address: u64| if chance.percent(50) { 0 } else { chance.below(1_000 - address) };
+    let [a, b, c] = [order.a, order.b, order.c].map(&mut fitting);
     probe.counts = match field {
-        Field::A => [count, any(chance), any(chance)],
-        Field::B => [fitting(order.a, chance), count, any(chance)],
-        Field::C => [fitting(order.a, chance), fitting(order.b, chance), count],
+        Field::A => [count, b, c],
+        Field::B => [a, count, c],
+        Field::C => [a, b, count],
     };
     draft.put_order(probe.location, order);
 }

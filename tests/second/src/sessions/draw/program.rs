@@ -61,7 +61,8 @@ fn loaded(words: &BTreeMap<u64, Word>, room: &Room, draft: &mut Draft, chance: &
         let cell = chance.between(1, 999);
         draft.put(cell, any_word(chance));
     }
-    let state = if chance.percent(50) { vec![0; 9] } else { (0..9).map(|_| chance.next()).collect() };
+    let state =
+        if chance.percent(50) { vec![0; 9] } else { (0..9).map(|_| chance.next()).collect() };
     draft.begin(state, chance);
     let mut deck = String::new();
     if chance.percent(30) {
@@ -85,7 +86,10 @@ fn direct(words: &BTreeMap<u64, Word>, room: &Room, draft: &mut Draft, chance: &
     let mode = chance.below(2);
     let tracing = mode * chance.below(2);
     let counter = chance.pick(&[0, 9_999]);
-    draft.begin(vec![room.program, 0, 0, 0, counter, chance.below(1_000), reader, mode, tracing], chance);
+    draft.begin(
+        vec![room.program, 0, 0, 0, counter, chance.below(1_000), reader, mode, tracing],
+        chance,
+    );
     draft.deck(deck);
 }
 
@@ -110,7 +114,12 @@ fn cards(words: &BTreeMap<u64, Word>, chance: &mut Chance) -> Vec<DataCard> {
             }
         }
         most = if chance.percent(70) { 5 } else { chance.between(1, 5) as usize };
-        cards.push(DataCard { number: chance.below(10_000), location: cell, words: vec![word], problem: 0 });
+        cards.push(DataCard {
+            number: chance.below(10_000),
+            location: cell,
+            words: vec![word],
+            problem: 0,
+        });
     }
     cards
 }

@@ -1,7 +1,7 @@
 //! The furniture of a drum for programs: blocks of cells and what they are good for.
 
-use super::aim::{any_address, strange_word};
 use super::draft::Draft;
+use super::parts::{any_address, strange_word};
 use crate::chance::Chance;
 use crate::decks::build::{any_card, any_cards, any_word, transfer_card};
 use crate::model::card::DataCard;

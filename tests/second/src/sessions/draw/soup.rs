@@ -1,7 +1,7 @@
 //! Programs of orders drawn by chance, most of them sensible where they stand.
 
-use super::aim::{any_address, built};
 use super::draft::Draft;
+use super::parts::{any_address, built};
 use super::room::{Room, INBOX, NUMBERS};
 use super::steer::steer;
 use crate::chance::Chance;
@@ -31,7 +31,10 @@ pub fn session(chance: &mut Chance) -> Vec<Message> {
     let (deck, reader) = room.small_deck(chance);
     let [a, b, c] = counts;
     let counter = chance.pick(&[0, 9_990, 9_999]);
-    draft.begin(vec![room.program, a, b, c, counter, chance.below(1_000), reader, mode, tracing], chance);
+    draft.begin(
+        vec![room.program, a, b, c, counter, chance.below(1_000), reader, mode, tracing],
+        chance,
+    );
     draft.deck(deck);
     let runs = chance.between(3, 9);
     steer(&mut draft, runs, room.program..room.program + length, chance);
@@ -49,7 +52,8 @@ fn order(room: &Room, counts: [u64; 3], chance: &mut Chance) -> Word {
     }
     let [a, b, c] = counts;
     let less = |address: u64, count: u64| address.saturating_sub(count);
-    Order { minus: true, o1: done.o1, a: less(done.a, a), b: less(done.b, b), c: less(done.c, c) }.word()
+    Order { minus: true, o1: done.o1, a: less(done.a, a), b: less(done.b, b), c: less(done.c, c) }
+        .word()
 }
 
 fn done(room: &Room, chance: &mut Chance) -> Order {
@@ -57,7 +61,8 @@ fn done(room: &Room, chance: &mut Chance) -> Order {
     let (b, c) = match code {
         Code::OfTwo(_) | Code::OfOne(_) => (room.operand(chance), room.result(chance)),
         Code::Move000 => {
-            let from = if chance.percent(40) { room.stranger(chance) } else { room.operand(chance) };
+            let from =
+                if chance.percent(40) { room.stranger(chance) } else { room.operand(chance) };
             (from, room.result(chance))
         }
         Code::CondStop | Code::UncStop => (room.result(chance), room.target(chance)),

@@ -12,7 +12,11 @@ pub fn steer(draft: &mut Draft, runs: u64, program: Range<u64>, chance: &mut Cha
     let generous = chance.percent(60);
     for _ in 0..runs {
         let budget = chance.pick(&[1, 2, 3, 5, 8, 13, 20, 40]);
-        let room = if generous { 2_000 } else { chance.pick(&[0, 22, 66, 76, 77, 78, 154, 160, 308, 616]) };
+        let room = if generous {
+            2_000
+        } else {
+            chance.pick(&[0, 22, 66, 76, 77, 78, 154, 160, 308, 616])
+        };
         let stop = chance.pick(&[0, 0, 1, 1 << 40]);
         let ended = draft.run(room, budget, stop);
         if matches!(ended.number, 10..=12) {

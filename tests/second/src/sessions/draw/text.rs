@@ -1,6 +1,6 @@
 //! The text of a program, put together from parts that each do something of their own.
 
-use super::aim::built;
+use super::parts::built;
 use super::room::{Room, INBOX, NUMBERS};
 use crate::chance::Chance;
 use crate::model::operation::{OfOne, OfTwo};
@@ -149,7 +149,8 @@ impl Text {
 
     fn trace_a_little(&mut self, chance: &mut Chance) {
         for _ in 0..chance.between(1, 4) {
-            let code = chance.pick(&[Code::StartTr, Code::StopTr, Code::StTrEras, Code::Noop, Code::Pch]);
+            let code =
+                chance.pick(&[Code::StartTr, Code::StopTr, Code::StTrEras, Code::Noop, Code::Pch]);
             self.push(code, 0, 0, 0);
         }
     }

@@ -1,0 +1,137 @@
+//! Decks that break a rule, or might seem to.
+
+use super::build::{any_card, longest, transfer_card, Cards};
+use crate::chance::Chance;
+
+/// Bytes that a check might take for a digit, a sign or a kind, and bytes next to these.
+pub const TELLING: [u8; 20] = [
+    b'0', b'9', b'/', b':', b'+', b'-', b',', b'.', b'T', b'X', b'Z', b'1', b'5', b'6', b' ',
+    b'\n', 0, 0x7F, 0xB0, 0xFF,
+];
+
+pub fn damaged_somehow(chance: &mut Chance) -> Vec<u8> {
+    match chance.below(16) {
+        0 | 1 => without_t(chance),
+        2 | 3 => with_second_t(chance),
+        4 | 5 => with_foreign_card(chance),
+        6..=8 => with_bad_location(chance),
+        9 => with_first_order_000(chance),
+        10 => garbage(chance),
+        11 | 12 => damaged(chance),
+        13 => damaged_twice(chance),
+        14 => cut(chance),
+        _ => with_more_behind(chance),
+    }
+}
+
+fn without_t(chance: &mut Chance) -> Vec<u8> {
+    let mut deck = Cards::any(chance);
+    deck.cards.remove(deck.t);
+    deck.bytes()
+}
+
+fn with_second_t(chance: &mut Chance) -> Vec<u8> {
+    let mut deck = Cards::any(chance);
+    let gap = deck.any_gap(chance);
+    deck.cards.insert(gap, transfer_card(chance));
+    deck.bytes()
+}
+
+/// Cards that only a machine writes, and kinds next to the good ones.
+fn with_foreign_card(chance: &mut Chance) -> Vec<u8> {
+    let mut deck = Cards::any(chance);
+    let words = "+0000000000".repeat(6);
+    let foreign = match chance.below(5) {
+        0 | 1 => format!("X0001001{words}000"),
+        2 => "Z000103000003+3000000050".to_string(),
+        3 => format!("60001001{words}000"),
+        _ => format!("{}001000", chance.pick(&['t', 'U', 'D', 'S', '0', '6', ' '])),
+    };
+    let gap = deck.any_gap(chance);
+    deck.cards.insert(gap, foreign);
+    deck.bytes()
+}
+
+/// Location 000, or a last location past 999, on either side of T.
+fn with_bad_location(chance: &mut Chance) -> Vec<u8> {
+    let mut deck = Cards::any(chance);
+    let mut card;
+    if chance.one_in(3) {
+        let words = chance.between(1, 5);
+        card = any_card(chance, words);
+        card.location = 0;
+    } else {
+        let words = chance.between(2, 5);
+        card = any_card(chance, words);
+        card.location = chance.between(1_001 - words, 999);
+    }
+    let gap = deck.any_gap(chance);
+    deck.cards.insert(gap, card.text());
+    deck.bytes()
+}
+
+/// In the only T, or in a second one.
+fn with_first_order_000(chance: &mut Chance) -> Vec<u8> {
+    let mut deck = Cards::any(chance);
+    let bad = format!("T000{:03}", chance.below(1_000));
+    if chance.percent(70) {
+        deck.cards[deck.t] = bad;
+    } else {
+        deck.cards.push(bad);
+    }
+    deck.bytes()
+}
+
+fn garbage(chance: &mut Chance) -> Vec<u8> {
+    let length = chance.below(12);
+    let telling = chance.percent(50);
+    (0..length).map(|_| if telling { chance.pick(&TELLING) } else { chance.next() as u8 }).collect()
+}
+
+fn damage(deck: &mut [u8], chance: &mut Chance) {
+    let place = chance.index(deck.len());
+    deck[place] = if chance.percent(50) { chance.pick(&TELLING) } else { chance.next() as u8 };
+}
+
+fn damaged(chance: &mut Chance) -> Vec<u8> {
+    let mut deck = Cards::any(chance).bytes();
+    damage(&mut deck, chance);
+    deck
+}
+
+fn damaged_twice(chance: &mut Chance) -> Vec<u8> {
+    let mut deck = with_second_t(chance);
+    damage(&mut deck, chance);
+    damage(&mut deck, chance);
+    deck
+}
+
+fn cut(chance: &mut Chance) -> Vec<u8> {
+    let mut deck = Cards::any(chance).bytes();
+    deck.truncate(chance.index(deck.len() + 1));
+    deck
+}
+
+fn with_more_behind(chance: &mut Chance) -> Vec<u8> {
+    let mut deck = Cards::any(chance).bytes();
+    let more = if chance.percent(50) { garbage(chance) } else { cut(chance) };
+    deck.extend(more);
+    deck
+}
+
+/// Lengths about the longest: 65,534 is good, and 65,537 is judged by its length alone.
+pub fn long(chance: &mut Chance) -> Vec<u8> {
+    let mut deck = longest(chance);
+    if chance.one_in(8) {
+        deck.cards.remove(deck.t);
+    }
+    let mut bytes = deck.bytes();
+    match chance.below(10) {
+        0 => {}
+        1 => damage(&mut bytes, chance),
+        2 => bytes.truncate(65_534 - chance.index(70)),
+        3..=8 => bytes.resize(65_534 + chance.index(5), chance.pick(&[b'1', b'T', b'?'])),
+        _ => bytes = [bytes, any_card(chance, 5).text().into_bytes()].concat(),
+    }
+    bytes
+}
