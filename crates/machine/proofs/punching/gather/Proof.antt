@@ -59,10 +59,13 @@ loop-less c =
 
 -- src/punching.rt:24:5
 loop-again : tie.Need-loop-again Inv-loop μ-loop
-loop-again c =
-    (omega arith, length-set (c .before .before .loop .words) (c .before .before .loop .i) (c .word .result) ∙ c .before .before .loop .inv .1, λ drum₀ v h.
-    one-gathered v (c .before .before .before .before .before .args .b) (c .before .before .loop .i) (c .word .result) (c .before .before .loop .words) (omega (arith, c .before .before .loop .inv .1)) (c .before .before .loop .inv .2 drum₀ v h)
-    (word-is h (c .before .before .before .before .before .args .b + c .before .before .loop .i) (c .word .result) (omega arith) (c .word .ensures)))
+loop-again c = (
+  omega arith,
+  length-set (c .before .before .loop .words) (c .before .before .loop .i) (c .word .result) ∙ c .before .before .loop .inv .1,
+  λ drum₀ v h.
+      one-gathered v (c .before .before .before .before .before .args .b) (c .before .before .loop .i) (c .word .result) (c .before .before .loop .words) (omega (arith, c .before .before .loop .inv .1)) (c .before .before .loop .inv .2 drum₀ v h)
+      (word-is h (c .before .before .before .before .before .args .b + c .before .before .loop .i) (c .word .result) (omega arith) (c .word .ensures)),
+)
 
 -- src/punching.rt:18:1
 returns : tie.Need-returns Inv-loop μ-loop

@@ -38,12 +38,14 @@ same-length c = search needs
 
 -- src/punching.rt:42:1
 returns : tie.Need-returns
-returns c =
-    (c .before .before .before .before .before .numbered-next .ensures, λ drum₀ out₀ m h.
-    let a = c .before .before .before .before .before .before .before .before .before .args in
-    card-sent h (a .b) (a .n) (c .before .before .before .before .gather .result) (c .before .before .write-data .last .0) (c .before .before .before .before .before .numbered-next .result) (c .before .before .write-data .result)
-    (c .before .before .before .before .before .before .before .before .before .pre .1 .0) (c .before .before .before .before .before .before .before .before .before .pre .1 .1) (c .before .before .before .before .before .before .before .before .before .pre .1 .2) (c .before .before .before .before .before .before .before .before .before .pre .1 .3) (c .before .before .before .before .before .before .before .before .before .pre .1 .4)
-    (c .before .before .before .before .gather .ensures drum₀ (m .cells) (h .memory)) (c .before .before .before .before .before .numbered-next .ensures) (c .before .before .write-data .ensures))
+returns c = (
+  c .before .before .before .before .before .numbered-next .ensures,
+  λ drum₀ out₀ m h.
+      let a = c .before .before .before .before .before .before .before .before .before .args in
+      card-sent h (a .b) (a .n) (c .before .before .before .before .gather .result) (c .before .before .write-data .last .0) (c .before .before .before .before .before .numbered-next .result) (c .before .before .write-data .result)
+      (c .before .before .before .before .before .before .before .before .before .pre .1 .0) (c .before .before .before .before .before .before .before .before .before .pre .1 .1) (c .before .before .before .before .before .before .before .before .before .pre .1 .2) (c .before .before .before .before .before .before .before .before .before .pre .1 .3) (c .before .before .before .before .before .before .before .before .before .pre .1 .4)
+      (c .before .before .before .before .gather .ensures drum₀ (m .cells) (h .memory)) (c .before .before .before .before .before .numbered-next .ensures) (c .before .before .write-data .ensures),
+)
 
 pub punch-card-spec : {M : Type 1} → statement M
 punch-card-spec =
