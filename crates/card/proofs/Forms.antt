@@ -69,39 +69,54 @@ by-first : (P : ℕ → List ℕ → Type 0) → ((k : ℕ) (t : List ℕ) → P
 by-first P h [] some = absurd (some refl)
 by-first P h (k ∷ t) some = h k t
 
-module _ (d : List ℕ) (some : length d ≡ 0 → ⊥) (f : Form) (q : f ≡ formOf (getD d 0 0)) where
+-- bytes d whose first is of the form f; and such bytes of a kind that is known, long enough, and the first place b that is bad
+pub record Begun (d : List ℕ) (f : Form) : Type 0 where
+  pub some : length d ≡ 0 → ⊥
+  pub form : f ≡ formOf (getD d 0 0)
+
+pub record Whole (d : List ℕ) (f : Form) (b : ℕ) : Type 0 where
+  pub begun : Begun d f
+  pub known : f .size ≡ 0 → ⊥
+  pub whole : f .size ≤ length d
+  pub looked : b ≡ badFrom (f .words) d 1 (f .size - 1)
+
+module _ {d : List ℕ} {f : Form} (h : Begun d f) where
   pub card-unknown : f .size ≡ 0 → cardOf d ≡ Bad UnknownKind
-  card-unknown h =
-      by-first (λ (k : ℕ) (e : List ℕ). formOf k .size ≡ 0 → cardOf e ≡ Bad UnknownKind) of-no-kind d some
-      (sym (ap (λ (g : Form). g .size) q) ∙ h)
+  card-unknown z =
+      by-first (λ (k : ℕ) (e : List ℕ). formOf k .size ≡ 0 → cardOf e ≡ Bad UnknownKind) of-no-kind d (h .some)
+      (sym (ap (λ (g : Form). g .size) (h .form)) ∙ z)
 
-  module _ (known : f .size ≡ 0 → ⊥) where
-    card-formed : cardOf d ≡ formed (getD d 0 0) f d
-    card-formed =
-        by-first (λ (k : ℕ) (e : List ℕ). (formOf k .size ≡ 0 → ⊥) → cardOf e ≡ formed k (formOf k) e) of-kind d some
-        (λ h. known (ap (λ (g : Form). g .size) q ∙ h))
-        ∙ ap (λ (g : Form). formed (getD d 0 0) g d) (sym q)
+  card-formed : (f .size ≡ 0 → ⊥) → cardOf d ≡ formed (getD d 0 0) f d
+  card-formed known =
+      by-first (λ (k : ℕ) (e : List ℕ). (formOf k .size ≡ 0 → ⊥) → cardOf e ≡ formed k (formOf k) e) of-kind d (h .some)
+      (λ z. known (ap (λ (g : Form). g .size) (h .form) ∙ z))
+      ∙ ap (λ (g : Form). formed (getD d 0 0) g d) (sym (h .form))
 
-    pub card-cut : length d < f .size → cardOf d ≡ Bad CutShort
-    card-cut h = card-formed ∙ simp (lt-ltb (length d) (f .size) h)
+  pub card-cut : (f .size ≡ 0 → ⊥) → length d < f .size → cardOf d ≡ Bad CutShort
+  card-cut known l = card-formed known ∙ simp (lt-ltb (length d) (f .size) l)
 
-    module _ (whole : f .size ≤ length d) where
-      pub card-byte : (b : ℕ) → b ≡ badFrom (f .words) d 1 (f .size - 1) → b < f .size → cardOf d ≡ Bad (BadByte b)
-      card-byte b e h =
-          card-formed
-          ∙ simp (le-ltb (length d) (f .size) whole, ← e, lt-ltb b (f .size) h)
+module _ {d : List ℕ} {f : Form} {b : ℕ} (h : Whole d f b) where
+  pub card-byte : b < f .size → cardOf d ≡ Bad (BadByte b)
+  card-byte l =
+      card-formed (h .begun) (h .known) ∙ simp (le-ltb (length d) (f .size) (h .whole), ← (h .looked), lt-ltb b (f .size) l)
 
-      module _ (b : ℕ) (e : b ≡ badFrom (f .words) d 1 (f .size - 1)) (due : f .size ≤ b) where
-        pub card-place : cellsFit (numberIn d (f .place) 3) (f .cells) ≡ false → cardOf d ≡ Bad (BadPlace (f .place))
-        card-place h = card-formed ∙ simp (le-ltb (length d) (f .size) whole, ← e, le-ltb b (f .size) due, h)
+  pub card-place : f .size ≤ b → cellsFit (numberIn d (f .place) 3) (f .cells) ≡ false → cardOf d ≡ Bad (BadPlace (f .place))
+  card-place l t =
+      card-formed (h .begun) (h .known) ∙ simp (le-ltb (length d) (f .size) (h .whole), ← (h .looked), le-ltb b (f .size) l, t)
 
-        module _ (fits : cellsFit (numberIn d (f .place) 3) (f .cells) ≡ true) where
-          card-good : cardOf d ≡ cardIn (getD d 0 0) f d
-          card-good = card-formed ∙ simp (le-ltb (length d) (f .size) whole, ← e, le-ltb b (f .size) due, fits)
+  card-good : f .size ≤ b → cellsFit (numberIn d (f .place) 3) (f .cells) ≡ true → cardOf d ≡ cardIn (getD d 0 0) f d
+  card-good l t =
+      card-formed (h .begun) (h .known) ∙ simp (le-ltb (length d) (f .size) (h .whole), ← (h .looked), le-ltb b (f .size) l, t)
 
-          pub card-first : getD d 0 0 ≡ 84 → cardOf d ≡ First (numberIn d (f .place) 3) (numberIn d 4 3)
-          card-first h = card-good ∙ simp (eq-eqb (getD d 0 0) 84 h)
+  pub card-first : f .size ≤ b → cellsFit (numberIn d (f .place) 3) (f .cells) ≡ true → getD d 0 0 ≡ 84
+      → cardOf d ≡ First (numberIn d (f .place) 3) (numberIn d 4 3)
+  card-first l t k = card-good l t ∙ simp (eq-eqb (getD d 0 0) 84 k)
 
-          pub card-data : (getD d 0 0 ≡ 84 → ⊥)
-              → cardOf d ≡ Data (numberIn d 1 4) (numberIn d (f .place) 3) (f .words) (numberIn d (8 + 11 * f .words) 3) (f .size)
-          card-data h = card-good ∙ simp (ne-eqb (getD d 0 0) 84 h)
+  pub card-data : f .size ≤ b → cellsFit (numberIn d (f .place) 3) (f .cells) ≡ true → (getD d 0 0 ≡ 84 → ⊥)
+      → cardOf d ≡ Data (numberIn d 1 4) (numberIn d (f .place) 3) (f .words) (numberIn d (8 + 11 * f .words) 3) (f .size)
+  card-data l t k = card-good l t ∙ simp (ne-eqb (getD d 0 0) 84 k)
+
+-- a first-order card has seven bytes
+pub first-size : (f : Form) (k : ℕ) → f ≡ formOf k → k ≡ 84 → f .size ≡ 7
+unfolding formOf
+first-size f k e q = ap (λ (g : Form). g .size) e ∙ ap (λ (j : ℕ). formOf j .size) q

@@ -5,3 +5,7 @@ mod reading;
 
 pub use reading::read_card;
 pub use reading::word_of;
+
+mod checking;
+
+pub use checking::check_deck;

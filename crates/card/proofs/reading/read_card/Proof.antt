@@ -1,15 +1,32 @@
 -- `card::read_card` meets its contract: each answer is that of the definition by the tests that led to it. Assumes nothing.
-use mathlib.Core.Path.{sym, ap, ap₂, _∙_}
+use mathlib.Core.Path.{_≡_, sym, ap, ap₂, _∙_}
 use Prim.Native.Nat.{ℕ}
 use native.Mathlib.Nat.{pos-of-ne-zero}
 use native.Mathlib.Omega.{arith}
 use borrow.Author.Needs.{needs}
 use borrow.Author.Tests.{not-true, not-false}
-use Rattle.rules.specs.Cards.{cellsFit}
+use Rattle.rules.specs.Cards.{numberIn, cellsFit}
 use Rattle.rules.specs.declared.Card.the-variants.{First}
-use Rattle.card.proofs.Forms.{card-none, card-unknown, card-cut, card-byte, card-place, card-first, card-data}
+use Rattle.card.proofs.Forms.{card-none, Begun, Whole, card-unknown, card-cut, card-byte, card-place, card-first, card-data}
 use Rattle.card.proofs.reading.read_card.Statement.{statement}
 use Rattle.card.proofs.reading.read_card.Tie as tie
+
+-- what is known where the form is known, and where the first bad place is
+begun : (c : tie.After-form-of) → Begun (c .before .before .before .before .args .rest .now) (c .form-of .result)
+begun c = record { some = c .before .before .if1 .left; form = c .form-of .ensures .known }
+
+whole : (c : tie.After-first-bad) → Whole (c .before .before .before .before .before .before .before .args .rest .now) (c .before .before .before .form-of .result) (c .first-bad .result)
+whole c = record {
+  begun = begun (c .before .before .before);
+  known = c .before .before .if2 .left;
+  whole = c .before .if3 .left;
+  looked = c .first-bad .ensures;
+}
+
+-- whether the cells fit, as the call tells it
+fits : (c : tie.After-cells-fit) → c .cells-fit .result ≡ cellsFit (numberIn (c .before .before .before .before .before .before .before .before .before .before .args .rest .now) (c .before .before .before .before .before .before .form-of .result .place) 3) (c .before .before .before .before .before .before .form-of .result .cells)
+fits c =
+    c .cells-fit .ensures ∙ ap (λ (x : ℕ). cellsFit x (c .before .before .before .before .before .before .form-of .result .cells)) (c .before .number-in .ensures .0)
 
 returns : tie.Need-returns
 returns c = sym (card-none (c .before .before .args .rest .now) (c .if1 .taken))
@@ -21,18 +38,16 @@ form-of-requires : tie.Need-form-of-requires
 form-of-requires c κs = tt
 
 returns-2 : tie.Need-returns-2
-returns-2 c = sym (card-unknown (c .before .before .before .before .before .args .rest .now) (c .before .before .before .if1 .left) (c .before .form-of .result) (c .before .form-of .ensures .known) (c .if2 .taken))
+returns-2 c = sym (card-unknown (begun (c .before)) (c .if2 .taken))
 
 returns-3 : tie.Need-returns-3
-returns-3 c = sym (card-cut (c .before .before .before .before .before .before .args .rest .now) (c .before .before .before .before .if1 .left) (c .before .before .form-of .result) (c .before .before .form-of .ensures .known) (c .before .if2 .left) (c .if3 .taken))
+returns-3 c = sym (card-cut (begun (c .before .before)) (c .before .if2 .left) (c .if3 .taken))
 
 first-bad-requires : tie.Need-first-bad-requires
 first-bad-requires c κs = (c .before .before .form-of .ensures .words, (pos-of-ne-zero (c .before .if2 .left), c .if3 .left))
 
 returns-4 : tie.Need-returns-4
-returns-4 c =
-    sym (card-byte (c .before .before .before .before .before .before .before .before .args .rest .now) (c .before .before .before .before .before .before .if1 .left) (c .before .before .before .before .form-of .result) (c .before .before .before .before .form-of .ensures .known) (c .before .before .before .if2 .left)
-    (c .before .before .if3 .left) (c .before .first-bad .result) (c .before .first-bad .ensures) (c .if4 .taken))
+returns-4 c = sym (card-byte (whole (c .before)) (c .if4 .taken))
 
 number-in-requires : tie.Need-number-in-requires
 number-in-requires c κs = search needs
@@ -42,20 +57,18 @@ cells-fit-requires c κs = (omega (arith, c .number-in .ensures .1), c .before .
 
 returns-5 : tie.Need-returns-5
 returns-5 c =
-    sym (card-place (c .before .before .before .before .before .before .before .before .before .before .before .args .rest .now) (c .before .before .before .before .before .before .before .before .before .if1 .left) (c .before .before .before .before .before .before .before .form-of .result) (c .before .before .before .before .before .before .before .form-of .ensures .known) (c .before .before .before .before .before .before .if2 .left)
-    (c .before .before .before .before .before .if3 .left) (c .before .before .before .before .first-bad .result) (c .before .before .before .before .first-bad .ensures) (c .before .before .before .if4 .left)
-    (ap (λ (x : ℕ). cellsFit x (c .before .before .before .before .before .before .before .form-of .result .cells)) (sym (c .before .before .number-in .ensures .0)) ∙ sym (c .before .cells-fit .ensures) ∙ not-true _ (c .if5 .taken)))
+    let d = c .before .before in
+    sym (card-place (whole (d .before .before)) (d .before .if4 .left) (sym (fits (c .before)) ∙ not-true _ (c .if5 .taken)))
 
 number-in-requires-2 : tie.Need-number-in-requires-2
 number-in-requires-2 c κs = search needs
 
 returns-6 : tie.Need-returns-6
 returns-6 c =
-    ap₂ First (c .before .before .before .before .number-in .ensures .0) (c .number-in2 .ensures .0)
-    ∙ sym (card-first (c .before .before .before .before .before .before .before .before .before .before .before .before .before .args .rest .now) (c .before .before .before .before .before .before .before .before .before .before .before .if1 .left) (c .before .before .before .before .before .before .before .before .before .form-of .result) (c .before .before .before .before .before .before .before .before .before .form-of .ensures .known) (c .before .before .before .before .before .before .before .before .if2 .left)
-    (c .before .before .before .before .before .before .before .if3 .left) (c .before .before .before .before .before .before .first-bad .result) (c .before .before .before .before .before .before .first-bad .ensures) (c .before .before .before .before .before .if4 .left)
-    (ap (λ (x : ℕ). cellsFit x (c .before .before .before .before .before .before .before .before .before .form-of .result .cells)) (sym (c .before .before .before .before .number-in .ensures .0)) ∙ sym (c .before .before .before .cells-fit .ensures) ∙ not-false _ (c .before .before .if5 .left))
-    (c .before .if6 .taken))
+    let g = c .before .before in
+    let d = g .before .before in
+    ap₂ First (d .number-in .ensures .0) (c .number-in2 .ensures .0)
+    ∙ sym (card-first (whole (d .before .before)) (d .before .if4 .left) (sym (fits (g .before)) ∙ not-false _ (g .if5 .left)) (c .before .if6 .taken))
 
 number-in-requires-3 : tie.Need-number-in-requires-3
 number-in-requires-3 c κs = search needs
@@ -71,14 +84,13 @@ number-in-requires-4 c κs = search needs
 
 returns-7 : tie.Need-returns-7
 returns-7 c =
+    let g = c .before .before .before in
+    let d = g .before .before in
     cc (
-      c .before .before .before .before .before .number-in .ensures .0,
+      d .number-in .ensures .0,
       c .before .number-in3 .ensures .0,
       c .number-in4 .ensures .0,
-      card-data (c .before .before .before .before .before .before .before .before .before .before .before .before .before .before .args .rest .now) (c .before .before .before .before .before .before .before .before .before .before .before .before .if1 .left) (c .before .before .before .before .before .before .before .before .before .before .form-of .result) (c .before .before .before .before .before .before .before .before .before .before .form-of .ensures .known) (c .before .before .before .before .before .before .before .before .before .if2 .left)
-          (c .before .before .before .before .before .before .before .before .if3 .left) (c .before .before .before .before .before .before .before .first-bad .result) (c .before .before .before .before .before .before .before .first-bad .ensures) (c .before .before .before .before .before .before .if4 .left)
-          (ap (λ (x : ℕ). cellsFit x (c .before .before .before .before .before .before .before .before .before .before .form-of .result .cells)) (sym (c .before .before .before .before .before .number-in .ensures .0)) ∙ sym (c .before .before .before .before .cells-fit .ensures) ∙ not-false _ (c .before .before .before .if5 .left))
-          (c .before .before .if6 .left),
+      card-data (whole (d .before .before)) (d .before .if4 .left) (sym (fits (g .before)) ∙ not-false _ (g .if5 .left)) (c .before .before .if6 .left),
     )
 
 pub read-card-spec : {M : Type 1} → statement M
