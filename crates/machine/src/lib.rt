@@ -4,6 +4,7 @@ mod codes;
 mod going;
 mod looping;
 mod memory;
+mod reading;
 mod states;
 mod tracing;
 
