@@ -4,3 +4,4 @@ pub mod Tracings
 pub mod Rows
 pub mod DeckCards
 pub mod Blocks
+pub mod Checks
