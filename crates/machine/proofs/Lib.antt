@@ -5,3 +5,7 @@ pub mod Rows
 pub mod DeckCards
 pub mod Blocks
 pub mod Checks
+pub mod Begins
+pub mod GoodDecks
+pub mod Loads
+pub mod OneLoad

@@ -3,12 +3,14 @@ mod changing;
 mod checking;
 mod codes;
 mod going;
+mod loading;
 mod looping;
 mod memory;
 mod reading;
 mod states;
 mod tracing;
 
+pub use loading::load;
 use rules::Ending;
 use rules::Loading;
 use rules::Outcome;
