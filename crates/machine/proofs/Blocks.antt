@@ -1,24 +1,49 @@
--- The words of a block, and of one card of it. Assumes nothing.
-use Prim.Native.Nat.{ℕ, zero, suc, _+_, _-_, _*_, _/_, _≤_, _<_}
+-- READ by its two outcomes: its cards fit and are stored, or the order is undone. Assumes nothing.
 use mathlib.Core.Path.{_≡_, refl, sym, ap, subst, _∙_}
-use mathlib.Core.List.{List, [], _∷_, _++_}
-use mathlib.Core.Bool.{Bool, true, false}
-use native.Mathlib.Omega.{arith}
-use native.Mathlib.Numerals.{add-one}
-use lib.ListN.{length, getD, set, take, length-append}
-use lib.Seq.{take-suc-set, take-set-le}
-use Rattle.rules.specs.Drum.{wordAt}
-use Rattle.rules.specs.Orders.{wordsFrom}
-use Rattle.rules.specs.declared.Cell.{Cell}
+use mathlib.Core.List.{List}
+use mathlib.Core.Bool.{Bool}
+use Prim.Native.Nat.{ℕ, _+_}
+use Rattle.rules.specs.Decks.{judgedFrom, cardsStored}
+use Rattle.rules.specs.Machine.{Machine, wentTo, readTo}
+use Rattle.rules.specs.Orders.{read}
+use Rattle.rules.specs.declared.State.{State}
+use Rattle.rules.specs.declared.Judged.{Judged}
+use Rattle.rules.specs.declared.Judged.the-variants.{Fits, Fails}
+use Rattle.rules.specs.declared.Refusal.{Refusal}
+use Rattle.rules.specs.declared.Outcome.the-variants.{GoesOn, Undone}
+use Rattle.machine.specs.Lent.{Holds, Shows, Keeps, Did, lent}
+use Rattle.machine.proofs.Shown.{stays}
 
-pub none-gathered : (v : List Cell) (b : ℕ) (l : List ℕ) → take 0 l ≡ wordsFrom v b 0
-unfolding wordsFrom
-none-gathered v b l = refl
+module _ {drum₀ out₀ drum marks out : List ℕ} {at : ℕ} {s : State} {m : Machine} (h : Shows drum₀ out₀ drum marks out at s m)
+    (deck : List ℕ) (stop : Bool) (room b c : ℕ) {j : Judged}
+    (e : j ≡ judgedFrom 1000 deck (s .reader) b c) where
+  -- the cards as the machine's reader has them are judged so too
+  judged-is : j ≡ judgedFrom 1000 deck (m .state .reader) b c
+  judged-is = e ∙ ap (λ (x : State). judgedFrom 1000 deck (x .reader) b c) (h .state-is)
 
--- one word more
-pub one-gathered : (v : List Cell) (b i w : ℕ) (l : List ℕ) → i < length l → take i l ≡ wordsFrom v b i → w ≡ wordAt v (b + i)
-    → take (i + 1) (set l i w) ≡ wordsFrom v b (i + 1)
-unfolding wordsFrom
-one-gathered v b i w l k e f =
-    subst (λ (j : ℕ). take j (set l i w) ≡ wordsFrom v b j) (sym (add-one i))
-    (take-suc-set l i w k ∙ ap (λ (x : List ℕ). x ++ (w ∷ [])) e ∙ ap (λ (x : ℕ). wordsFrom v b i ++ (x ∷ [])) f)
+  pub read-fails : {why : Refusal} → j ≡ Fails why
+      → Did drum₀ out₀ drum marks out (record { outcome = Undone why; at = at; state = s })
+      (read (lent deck stop room) m (judgedFrom 1000 deck (m .state .reader) b c))
+  read-fails {why} q =
+      subst (λ (x : Judged). Did drum₀ out₀ drum marks out (record { outcome = Undone why; at = at; state = s }) (read (lent deck stop room) m x))
+      (sym q ∙ judged-is) (stays h (Undone why))
+
+  pub read-fits : {end : ℕ} (drum′ marks′ : List ℕ) (t : State) → j ≡ Fits end → Keeps drum marks drum′ marks′ (cardsStored end deck (s .reader) end)
+      → t ≡ wentTo (readTo s end) (s .location + 1)
+      → Did drum₀ out₀ drum′ marks′ out (record { outcome = GoesOn; at = at; state = t })
+      (read (lent deck stop room) m (judgedFrom 1000 deck (m .state .reader) b c))
+  read-fits {end} drum′ marks′ t q k r =
+      subst (λ (x : Judged). Did drum₀ out₀ drum′ marks′ out (record { outcome = GoesOn; at = at; state = t }) (read (lent deck stop room) m x))
+      (sym q ∙ judged-is)
+      (record {
+        outcome-is = refl;
+        shows =
+            record {
+              memory =
+                  subst (λ (x : State). Holds drum₀ drum′ marks′ (cardsStored end deck (x .reader) end (m .cells))) (h .state-is)
+                  (k drum₀ (m .cells) (h .memory));
+              output = h .output;
+              state-is = r ∙ ap (λ (x : State). wentTo (readTo x end) (x .location + 1)) (h .state-is);
+              steady = h .steady;
+            };
+      })

@@ -1,15 +1,19 @@
 // Load and run on a lent drum, its marks, a deck and an output. Only these two are shown; each family of orders has a module of its own.
 mod changing;
+mod checking;
 mod checks;
 mod codes;
 mod going;
+mod loading;
 mod looping;
 mod memory;
 mod punching;
+mod reading;
 mod reckoning;
 mod states;
 mod tracing;
 
+pub use loading::load;
 use rules::Ending;
 use rules::Loading;
 use rules::Outcome;

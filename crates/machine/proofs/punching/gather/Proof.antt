@@ -8,7 +8,7 @@ use Rattle.rules.specs.Orders.{wordsFrom}
 use Rattle.rules.specs.declared.Cell.{Cell}
 use Rattle.machine.specs.Lent.{Holds}
 use Rattle.machine.proofs.Shown.{word-is}
-use Rattle.machine.proofs.Blocks.{none-gathered, one-gathered}
+use Rattle.machine.proofs.Gathered.{none-gathered, one-gathered}
 use Rattle.machine.proofs.punching.gather.Statement.{statement}
 use Rattle.machine.proofs.punching.gather.Tie as tie
 use Rattle.machine.proofs.punching.gather.Reads as reads

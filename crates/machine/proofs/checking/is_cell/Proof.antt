@@ -1,0 +1,16 @@
+-- `is_cell`: beside the mark 0 any number will do. Assumes nothing.
+use Rattle.machine.proofs.FitDrum.{unmarked-fits, no-mark, marked-fits}
+use Rattle.machine.proofs.checking.is_cell.Statement.{statement}
+use Rattle.machine.proofs.checking.is_cell.Tie as tie
+
+returns : tie.Need-returns
+returns c = unmarked-fits (c .before .args .mark) (c .before .args .number) (c .if1 .taken)
+
+returns-2 : tie.Need-returns-2
+returns-2 c = no-mark (c .before .before .args .mark) (c .before .before .args .number) (c .if2 .taken)
+
+returns-3 : tie.Need-returns-3
+returns-3 c = marked-fits (c .before .before .args .mark) (c .before .before .args .number) (c .before .if1 .left) (c .if2 .left)
+
+pub is-cell-spec : {M : Type 1} → statement M
+is-cell-spec = tie.close (tie.spec returns returns-2 returns-3)

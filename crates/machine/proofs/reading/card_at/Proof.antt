@@ -1,0 +1,37 @@
+-- `card_at`: past the deck's end nothing is left, and before it `&deck[at..]` is what is left. Assumes nothing.
+use mathlib.Core.Path.{ap, _∙_}
+use native.Mathlib.Omega.{arith}
+use Rattle.rules.specs.Cards.{cardOf}
+use Rattle.machine.proofs.DeckCards.{rest-is, none-past}
+use borrow.Author.Needs.{needs}
+use Rattle.machine.proofs.reading.card_at.Statement.{statement}
+use Rattle.machine.proofs.reading.card_at.Tie as tie
+
+returns : tie.Need-returns
+returns c = none-past (c .before .before .args .deck .now) (c .before .before .args .at) (omega arith)
+
+sub-read-card : tie.Need-sub-read-card
+sub-read-card c = search needs
+
+part-read-card-start : tie.Need-part-read-card-start
+part-read-card-start c = search needs
+
+part-read-card-end : tie.Need-part-read-card-end
+part-read-card-end c = search needs
+
+read-card-requires : tie.Need-read-card-requires
+read-card-requires c κs = search needs
+
+returns-2 : tie.Need-returns-2
+returns-2 c = c .read-card .ensures ∙ ap cardOf (rest-is (c .before .before .before .before .args .deck .now) (c .before .before .before .before .args .at))
+
+pub card-at-spec : {M : Type 1} → statement M
+card-at-spec =
+    tie.close
+    (tie.spec
+    returns
+    sub-read-card
+    part-read-card-start
+    part-read-card-end
+    read-card-requires
+    returns-2)
