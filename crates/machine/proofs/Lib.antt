@@ -7,6 +7,7 @@ pub mod Rows
 pub mod ByClass
 pub mod Gathered
 pub mod Punches
+pub mod Traces
 pub mod DeckCards
 pub mod Blocks
 pub mod FitDrum

@@ -1,3 +1,4 @@
 pub mod Lent
 pub mod Rows
 pub mod Refusals
+pub mod Suits

@@ -10,6 +10,7 @@ mod memory;
 mod punching;
 mod reading;
 mod reckoning;
+mod running;
 mod states;
 mod tracing;
 

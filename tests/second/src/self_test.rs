@@ -34,22 +34,22 @@ pub fn all(count: u64, seed: u64) -> bool {
     fs::create_dir_all(&folder).expect("a folder for the files of the self-test");
     let mut fine = true;
     for kind in KINDS {
-        let bench = Bench { kind, folder: &folder };
-        fine &= bench.agrees(count, seed, true);
-        fine &= bench.misses_coverage(seed);
-        fine &= bench.agrees(FEW, seed, false) && bench.sees_what_is_spoiled(seed);
+        let test = Test { kind, folder: &folder };
+        fine &= test.agrees(count, seed, true);
+        fine &= test.misses_coverage(seed);
+        fine &= test.agrees(FEW, seed, false) && test.sees_what_is_spoiled(seed);
     }
     fs::remove_dir_all(&folder).expect("the folder of the self-test can be removed");
     println!("self: {}, seed {seed}", if fine { "all as it must be" } else { "FAILED" });
     fine
 }
 
-struct Bench<'a> {
+struct Test<'a> {
     kind: &'a str,
     folder: &'a Path,
 }
 
-impl Bench<'_> {
+impl Test<'_> {
     fn file(&self, name: &str) -> PathBuf {
         self.folder.join(format!("{}-{name}", self.kind))
     }

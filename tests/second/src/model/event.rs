@@ -1,7 +1,7 @@
 //! What a witness of the model is told, for counting what was covered.
 
 use super::order::Code;
-use super::stop::Reason;
+use super::stop::{Field, Reason};
 
 /// Where control goes after an order.
 #[derive(Clone, Copy, Debug, PartialEq, Eq, PartialOrd, Ord)]
@@ -45,6 +45,11 @@ pub enum Event {
     Refused {
         reason: Reason,
         tracing: Tracing,
+    },
+    /// Told besides, of a sum above 999: the code as stored, and the address, used or not.
+    SumRefused {
+        code: Code,
+        field: Field,
     },
     OrderRefused {
         code: Code,

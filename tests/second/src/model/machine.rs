@@ -32,6 +32,7 @@ impl Machine<'_> {
             Ok(fetched) => fetched,
             Err(reason) => {
                 (self.witness)(Event::Refused { reason, tracing });
+                self.tell_of_sum(reason);
                 return Err(reason);
             }
         };
@@ -60,6 +61,14 @@ impl Machine<'_> {
                 (self.witness)(Event::OrderRefused { code, reason, tracing });
                 Err(reason)
             }
+        }
+    }
+
+    fn tell_of_sum(&mut self, reason: Reason) {
+        let Reason::SumAbove999(field) = reason else { return };
+        let stored = Order::of_word(self.drum.shown(self.state.location));
+        if let Some(code) = code(stored) {
+            (self.witness)(Event::SumRefused { code, field });
         }
     }
 

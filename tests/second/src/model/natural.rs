@@ -1,26 +1,26 @@
 //! Exact natural numbers.
 //!
-//! A number is a row of 64-bit limbs, least first, in a fixed room of 20 limbs, so below 2^1280 and
-//! above 10^385. The largest value that the arithmetic asks for is below 10^340 (see `nearest.rs`).
-//! A result that would leave the room is a panic, never a wrong value.
+//! A number is a row of at most 20 limbs of 64 bits, the least first. That reaches beyond 10^385, and
+//! the largest value that the arithmetic asks for is below 10^340 (see `nearest.rs`). A result with
+//! more limbs is a panic, never a wrong value.
 
 use std::cmp::Ordering;
 use std::sync::OnceLock;
 
-const ROOM: usize = 20;
+const MOST: usize = 20;
 
 /// `limbs[used..]` are zeros and, unless the number is zero, `limbs[used - 1]` is not.
 #[derive(Clone, Copy, Debug, PartialEq, Eq)]
 pub struct Natural {
-    limbs: [u64; ROOM],
+    limbs: [u64; MOST],
     used: usize,
 }
 
 impl Natural {
-    pub const ZERO: Natural = Natural { limbs: [0; ROOM], used: 0 };
+    pub const ZERO: Natural = Natural { limbs: [0; MOST], used: 0 };
 
     pub fn new(value: u64) -> Natural {
-        let mut limbs = [0; ROOM];
+        let mut limbs = [0; MOST];
         limbs[0] = value;
         Natural { limbs, used: (value != 0) as usize }
     }
@@ -82,7 +82,7 @@ impl Natural {
         if self.is_zero() || other.is_zero() {
             return product;
         }
-        assert!(self.used + other.used <= ROOM, "a product leaves the room of a natural number");
+        assert!(self.used + other.used <= MOST, "a product has too many limbs");
         for i in 0..self.used {
             let mut carry = 0u64;
             for j in 0..other.used {
@@ -100,7 +100,7 @@ impl Natural {
     }
 
     fn push(&mut self, limb: u64) {
-        assert!(self.used < ROOM, "a natural number leaves its room");
+        assert!(self.used < MOST, "a natural number has too many limbs");
         self.limbs[self.used] = limb;
         self.used += 1;
     }

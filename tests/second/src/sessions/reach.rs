@@ -87,6 +87,20 @@ pub fn of_orders() -> Vec<Event> {
         }
         events.extend(early.into_iter().map(|reason| Event::Refused { reason, tracing }));
     }
+    events.extend(sums());
+    events
+}
+
+/// Every code and every address; but no count lifts an O2 or A of 000 above 999.
+fn sums() -> Vec<Event> {
+    let mut events = Vec::new();
+    for (o1, o2, code, _) in BUILT {
+        for field in FIELDS {
+            if field != Field::A || o2 != 0 || (1..=5).contains(&o1) {
+                events.push(Event::SumRefused { code, field });
+            }
+        }
+    }
     events
 }
 

@@ -3,12 +3,13 @@
 mod aim;
 mod block;
 mod draft;
+mod early;
 mod hostile;
+mod layout;
 mod named;
 mod parts;
 mod probe;
 mod program;
-mod room;
 mod soup;
 mod steer;
 mod text;

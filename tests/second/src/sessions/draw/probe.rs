@@ -2,29 +2,30 @@
 
 use super::aim::{aim, Aimed};
 use super::draft::Draft;
-use super::parts::{any_address, before, built, unmarked};
+use super::early::{refuse_early, sum_above_999};
+use super::parts::{before, built};
 use crate::chance::Chance;
-use crate::decks::build::{any_word, Cards};
+use crate::decks::build::Cards;
 use crate::model::event::{Event, Tracing};
-use crate::model::order::{Code, Order, BUILT};
-use crate::model::stop::{Field, Reason};
+use crate::model::order::{Code, Order};
 use crate::sessions::message::Message;
+use crate::sessions::reach::TRACINGS;
 
 /// How many probes share a drum.
-pub const PROBES: u64 = 5;
+pub const PROBES: u64 = 6;
 
-const TRACE_CARD: u64 = 77;
+pub const TRACE_CARD: u64 = 77;
 
 /// A probe that has its cells, ready to be run.
-struct Probe {
-    tracing: Tracing,
-    location: u64,
-    counts: [u64; 3],
+pub struct Probe {
+    pub tracing: Tracing,
+    pub location: u64,
+    pub counts: [u64; 3],
     /// Orders up to the one aimed at, itself included.
-    orders: u64,
-    room: u64,
-    deck: Option<(String, u64)>,
-    switch_on_stop: bool,
+    pub orders: u64,
+    pub room: u64,
+    pub deck: Option<(String, u64)>,
+    pub switch_on_stop: bool,
 }
 
 /// A session with one probe for each of the events.
@@ -86,12 +87,17 @@ fn laid_out(event: Event, draft: &mut Draft, chance: &mut Chance) -> Probe {
         Event::OrderRefused { tracing, .. } | Event::Refused { tracing, .. } => {
             (tracing, chance.one_in(4))
         }
+        Event::SumRefused { .. } => (chance.pick(&TRACINGS), false),
         _ => panic!("a probe is aimed at what an order comes to"),
     };
     let aimed = aim(event, draft, chance);
     let mut probe = placed(aimed, modified, tracing, draft, chance);
-    if let Event::Refused { reason, .. } = event {
-        refuse_early(&mut probe, reason, draft, chance);
+    match event {
+        Event::Refused { reason, .. } => refuse_early(&mut probe, reason, draft, chance),
+        Event::SumRefused { code, field } => {
+            sum_above_999(&mut probe, Some(code), field, draft, chance)
+        }
+        _ => {}
     }
     probe
 }
@@ -145,63 +151,4 @@ fn stored(aimed: &Aimed, modified: bool, chance: &mut Chance) -> (Order, [u64; 3
     }
     let most = chance.pick(&[0, 2, 999]);
     (done, [0; 3].map(|_| chance.below(most + 1)))
-}
-
-/// Refusals that come before the order's code is looked at.
-fn refuse_early(probe: &mut Probe, reason: Reason, draft: &mut Draft, chance: &mut Chance) {
-    match reason {
-        Reason::Location000 | Reason::LocationPast999 if chance.percent(50) => {
-            probe.location = if reason == Reason::Location000 { 0 } else { 1_000 };
-        }
-        Reason::Location000 => {
-            draft.put_order(probe.location, built(Code::Tr, 0, any_address(chance), 0));
-            go_on_behind(probe);
-        }
-        Reason::LocationPast999 => {
-            probe.location = 999;
-            draft.put_order(999, built(Code::Noop, 0, any_address(chance), any_address(chance)));
-            go_on_behind(probe);
-        }
-        Reason::OrderUnmarked => probe.location = unmarked(draft, chance),
-        Reason::SumAbove999(field) => sum_above_999(probe, field, draft, chance),
-        Reason::NoRoomForTrace => {
-            let short = chance.pick(&[1, 2, 77, 77]);
-            probe.room = TRACE_CARD * probe.orders - short;
-        }
-        _ => {}
-    }
-}
-
-/// The refusal is that of the next order.
-fn go_on_behind(probe: &mut Probe) {
-    probe.counts = [0; 3];
-    probe.orders = 2;
-    probe.room += TRACE_CARD;
-}
-
-/// One of the three sums passes 999, by one or by more, whether the order uses that address or not;
-/// the sums before it do not.
-fn sum_above_999(probe: &mut Probe, field: Field, draft: &mut Draft, chance: &mut Chance) {
-    let order = loop {
-        let (_, _, code, _) = chance.pick(&BUILT);
-        let mut order = built(code, any_address(chance), any_address(chance), any_address(chance));
-        if chance.one_in(4) {
-            order = Order::of_word(any_word(chance));
-        }
-        if order.address(field) > 0 {
-            break Order { minus: true, ..order };
-        }
-    };
-    let address = order.address(field);
-    let count =
-        if chance.percent(50) { 1_000 - address } else { chance.between(1_000 - address, 999) };
-    let mut fitting =
-        |address: u64| if chance.percent(50) { 0 } else { chance.below(1_000 - address) };
-    let [a, b, c] = [order.a, order.b, order.c].map(&mut fitting);
-    probe.counts = match field {
-        Field::A => [count, b, c],
-        Field::B => [a, count, c],
-        Field::C => [a, b, count],
-    };
-    draft.put_order(probe.location, order);
 }

@@ -4,7 +4,7 @@
 use std::collections::BTreeMap;
 
 use super::draft::Draft;
-use super::room::Room;
+use super::layout::Layout;
 use super::steer::steer;
 use super::text::Text;
 use crate::chance::Chance;
@@ -18,21 +18,21 @@ const LENGTH: u64 = 60;
 
 pub fn session(chance: &mut Chance) -> Vec<Message> {
     let mut draft = Draft::new(chance);
-    let room = Room::new(LENGTH, &mut draft, chance);
-    let mut words: BTreeMap<u64, Word> = room.words(chance).into_iter().collect();
-    let text = Text::any(&room, chance);
-    words.extend((room.program..).zip(text.orders.iter().map(|order| order.word())));
+    let layout = Layout::new(LENGTH, &mut draft, chance);
+    let mut words: BTreeMap<u64, Word> = layout.words(chance).into_iter().collect();
+    let text = Text::any(&layout, chance);
+    words.extend((layout.program..).zip(text.orders.iter().map(|order| order.word())));
     if chance.percent(20) {
         spoil(&mut words, chance);
     }
     if chance.percent(70) {
-        loaded(&words, &room, &mut draft, chance);
+        loaded(&words, &layout, &mut draft, chance);
     } else {
-        direct(&words, &room, &mut draft, chance);
+        direct(&words, &layout, &mut draft, chance);
     }
     let runs = chance.between(3, 8);
-    let end = room.program + text.orders.len() as u64;
-    steer(&mut draft, runs, room.program..end, chance);
+    let end = layout.program + text.orders.len() as u64;
+    steer(&mut draft, runs, layout.program..end, chance);
     draft.finish()
 }
 
@@ -56,7 +56,7 @@ fn spoil(words: &mut BTreeMap<u64, Word>, chance: &mut Chance) {
 }
 
 /// The words come from a deck, onto a drum that has marks and strange cells already.
-fn loaded(words: &BTreeMap<u64, Word>, room: &Room, draft: &mut Draft, chance: &mut Chance) {
+fn loaded(words: &BTreeMap<u64, Word>, layout: &Layout, draft: &mut Draft, chance: &mut Chance) {
     for _ in 0..chance.below(4) {
         let cell = chance.between(1, 999);
         draft.put(cell, any_word(chance));
@@ -71,23 +71,23 @@ fn loaded(words: &BTreeMap<u64, Word>, room: &Room, draft: &mut Draft, chance: &
     for card in cards(words, chance) {
         deck += &card.text();
     }
-    deck += &format!("T{:03}{:03}", room.program, chance.below(1_000));
-    deck += &room.inbox_cards(chance);
+    deck += &format!("T{:03}{:03}", layout.program, chance.below(1_000));
+    deck += &layout.inbox_cards(chance);
     draft.deck(deck);
     draft.load(chance.pick(&[0, 0, 1, 1, 2, u64::MAX]));
 }
 
 /// The words lie on the drum, marked, and only the cards for READ come from a deck.
-fn direct(words: &BTreeMap<u64, Word>, room: &Room, draft: &mut Draft, chance: &mut Chance) {
+fn direct(words: &BTreeMap<u64, Word>, layout: &Layout, draft: &mut Draft, chance: &mut Chance) {
     for (&cell, &word) in words {
         draft.put(cell, word);
     }
-    let (deck, reader) = room.small_deck(chance);
+    let (deck, reader) = layout.small_deck(chance);
     let mode = chance.below(2);
     let tracing = mode * chance.below(2);
     let counter = chance.pick(&[0, 9_999]);
     draft.begin(
-        vec![room.program, 0, 0, 0, counter, chance.below(1_000), reader, mode, tracing],
+        vec![layout.program, 0, 0, 0, counter, chance.below(1_000), reader, mode, tracing],
         chance,
     );
     draft.deck(deck);

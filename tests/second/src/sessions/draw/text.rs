@@ -1,7 +1,7 @@
 //! The text of a program, put together from parts that each do something of their own.
 
+use super::layout::{Layout, INBOX, NUMBERS};
 use super::parts::built;
-use super::room::{Room, INBOX, NUMBERS};
 use crate::chance::Chance;
 use crate::model::operation::{OfOne, OfTwo};
 use crate::model::order::{Change, Code, Order};
@@ -14,29 +14,29 @@ pub struct Text {
 
 impl Text {
     /// A few parts and a stop.
-    pub fn any(room: &Room, chance: &mut Chance) -> Text {
-        let mut text = Text { start: room.program, orders: Vec::new() };
+    pub fn any(layout: &Layout, chance: &mut Chance) -> Text {
+        let mut text = Text { start: layout.program, orders: Vec::new() };
         for _ in 0..chance.between(2, 5) {
-            text.part(room, chance);
+            text.part(layout, chance);
         }
-        let shown = room.operand(chance);
+        let shown = layout.operand(chance);
         text.push(Code::UncStop, 0, shown, 0);
-        assert!(text.orders.len() as u64 <= room.length, "a program outgrows its cells");
+        assert!(text.orders.len() as u64 <= layout.length, "a program outgrows its cells");
         text
     }
 
-    fn part(&mut self, room: &Room, chance: &mut Chance) {
+    fn part(&mut self, layout: &Layout, chance: &mut Chance) {
         match chance.below(10) {
-            0 => self.loop_over_numbers(room, chance),
-            1 => self.loop_that_copies(room, chance),
-            2 => self.loop_that_changes_an_order(room, chance),
-            3 => self.subroutine(room, chance),
-            4 => self.branch_on_sign(room, chance),
-            5 => self.shrink_until_small(room, chance),
-            6 => self.read_and_punch(room),
+            0 => self.loop_over_numbers(layout, chance),
+            1 => self.loop_that_copies(layout, chance),
+            2 => self.loop_that_changes_an_order(layout, chance),
+            3 => self.subroutine(layout, chance),
+            4 => self.branch_on_sign(layout, chance),
+            5 => self.shrink_until_small(layout, chance),
+            6 => self.read_and_punch(layout),
             7 => self.trace_a_little(chance),
-            8 => self.stop_and_go(room, chance),
-            _ => self.straight(room, chance),
+            8 => self.stop_and_go(layout, chance),
+            _ => self.straight(layout, chance),
         }
     }
 
@@ -53,10 +53,10 @@ impl Text {
         self.orders.push(Order { minus: true, ..built(code, a, b, c) });
     }
 
-    fn straight(&mut self, room: &Room, chance: &mut Chance) {
+    fn straight(&mut self, layout: &Layout, chance: &mut Chance) {
         const TWO: [OfTwo; 5] = [OfTwo::Add, OfTwo::Sub, OfTwo::Mpy, OfTwo::Div, OfTwo::Ngmpy];
         for _ in 0..chance.between(2, 5) {
-            let (a, b, c) = (room.operand(chance), room.operand(chance), room.result(chance));
+            let (a, b, c) = (layout.operand(chance), layout.operand(chance), layout.result(chance));
             match chance.below(8) {
                 0 => self.push(Code::OfOne(OfOne::Abs), 0, b, 0),
                 1 => {
@@ -70,41 +70,46 @@ impl Text {
     }
 
     /// The sum of the first numbers of the block, with the loop box stepping A or B.
-    fn loop_over_numbers(&mut self, room: &Room, chance: &mut Chance) {
-        let (sum, count) = (room.hole(chance), chance.between(1, NUMBERS));
-        self.push(Code::OfTwo(OfTwo::Sub), room.numbers, room.numbers, sum);
+    fn loop_over_numbers(&mut self, layout: &Layout, chance: &mut Chance) {
+        let (sum, count) = (layout.hole(chance), chance.between(1, NUMBERS));
+        self.push(Code::OfTwo(OfTwo::Sub), layout.numbers, layout.numbers, sum);
         let again = self.here();
         if chance.percent(50) {
-            self.push_minus(Code::OfTwo(OfTwo::Add), sum, room.numbers, sum);
+            self.push_minus(Code::OfTwo(OfTwo::Add), sum, layout.numbers, sum);
             self.push(Code::Loop([false, true, false]), 0, count, again);
         } else {
-            self.push_minus(Code::OfTwo(OfTwo::Add), room.numbers, sum, sum);
+            self.push_minus(Code::OfTwo(OfTwo::Add), layout.numbers, sum, sum);
             self.push(Code::Loop([true, false, false]), 0, count, again);
         }
     }
 
     /// A block copied or combined word by word, with two or three counts at once.
-    fn loop_that_copies(&mut self, room: &Room, chance: &mut Chance) {
+    fn loop_that_copies(&mut self, layout: &Layout, chance: &mut Chance) {
         let count = chance.between(1, INBOX);
         let again = self.here();
         if chance.percent(50) {
-            self.push_minus(Code::Move000, 0, room.strangers, room.inbox);
+            self.push_minus(Code::Move000, 0, layout.strangers, layout.inbox);
             self.push(Code::Loop([false, true, true]), 0, count.min(5), again);
         } else {
-            self.push_minus(Code::OfTwo(OfTwo::Mpy), room.numbers, room.numbers + 3, room.inbox);
+            self.push_minus(
+                Code::OfTwo(OfTwo::Mpy),
+                layout.numbers,
+                layout.numbers + 3,
+                layout.inbox,
+            );
             self.push(Code::Loop([true, true, true]), 0, count, again);
         }
     }
 
     /// The same without minus orders: the order's own addresses are stepped, then set back.
-    fn loop_that_changes_an_order(&mut self, room: &Room, chance: &mut Chance) {
+    fn loop_that_changes_an_order(&mut self, layout: &Layout, chance: &mut Chance) {
         let changed = self.here() + 1;
         let (add, sub) = (Change::Add, Change::Sub);
         let (field, back) = chance.pick(&[(Field::A, sub), (Field::B, sub), (Field::C, add)]);
         let step = if back == add { (sub, 1) } else { (add, 1) };
-        let sum = room.numbers + NUMBERS - 1;
+        let sum = layout.numbers + NUMBERS - 1;
         self.push(Code::Change(Change::Set, Field::C), 0, changed, sum);
-        self.push(Code::OfTwo(OfTwo::Add), room.numbers + 2, room.numbers, sum);
+        self.push(Code::OfTwo(OfTwo::Add), layout.numbers + 2, layout.numbers, sum);
         self.push(Code::Change(step.0, field), 0, changed, step.1);
         let count = chance.between(2, 4);
         self.push(Code::Loop([false, false, true]), 0, count, changed);
@@ -112,7 +117,7 @@ impl Text {
     }
 
     /// The entry takes the return address and hands it to the last order of the routine.
-    fn subroutine(&mut self, room: &Room, chance: &mut Chance) {
+    fn subroutine(&mut self, layout: &Layout, chance: &mut Chance) {
         let call = self.here();
         let (entry, exit, back) = (call + 2, call + 4, call + 1);
         self.push(Code::TrSubr, 0, back, entry);
@@ -120,31 +125,31 @@ impl Text {
         let entry_minus = chance.percent(50);
         self.push(Code::Change(Change::Set, Field::C), 0, exit, 0);
         self.orders.last_mut().expect("just pushed").minus = entry_minus;
-        self.push(Code::OfOne(OfOne::Abs), 0, room.number(chance), room.number(chance));
+        self.push(Code::OfOne(OfOne::Abs), 0, layout.number(chance), layout.number(chance));
         self.push(Code::Tr, 0, 0, 0);
     }
 
-    fn branch_on_sign(&mut self, room: &Room, chance: &mut Chance) {
-        let (a, b) = (room.operand(chance), room.operand(chance));
-        self.push(Code::OfTwo(OfTwo::Sub), a, b, room.hole(chance));
+    fn branch_on_sign(&mut self, layout: &Layout, chance: &mut Chance) {
+        let (a, b) = (layout.operand(chance), layout.operand(chance));
+        self.push(Code::OfTwo(OfTwo::Sub), a, b, layout.hole(chance));
         let next = self.here() + 1;
         self.push(Code::TrSgn, 0, next, next + 1);
-        self.push(Code::OfTwo(OfTwo::Ngmpy), 0, room.number(chance), room.number(chance));
+        self.push(Code::OfTwo(OfTwo::Ngmpy), 0, layout.number(chance), layout.number(chance));
         self.push(Code::Noop, 0, 0, 0);
     }
 
     /// A number is divided by itself times ten or so until its exponent is below a bound.
-    fn shrink_until_small(&mut self, room: &Room, chance: &mut Chance) {
-        let (value, divisor) = (room.number(chance), room.number(chance));
+    fn shrink_until_small(&mut self, layout: &Layout, chance: &mut Chance) {
+        let (value, divisor) = (layout.number(chance), layout.number(chance));
         let again = self.here();
         self.push(Code::OfTwo(OfTwo::Div), value, divisor, value);
         self.push(Code::TrExp, 0, chance.between(35, 60), again);
     }
 
-    fn read_and_punch(&mut self, room: &Room) {
-        let last = room.inbox + INBOX - 1;
-        self.push(Code::Read, 0, room.inbox, last);
-        self.push(Code::Pch, 0, room.inbox, last);
+    fn read_and_punch(&mut self, layout: &Layout) {
+        let last = layout.inbox + INBOX - 1;
+        self.push(Code::Read, 0, layout.inbox, last);
+        self.push(Code::Pch, 0, layout.inbox, last);
     }
 
     fn trace_a_little(&mut self, chance: &mut Chance) {
@@ -155,8 +160,8 @@ impl Text {
         }
     }
 
-    fn stop_and_go(&mut self, room: &Room, chance: &mut Chance) {
+    fn stop_and_go(&mut self, layout: &Layout, chance: &mut Chance) {
         let next = self.here() + 1;
-        self.push(Code::CondStop, 0, room.operand(chance), next);
+        self.push(Code::CondStop, 0, layout.operand(chance), next);
     }
 }

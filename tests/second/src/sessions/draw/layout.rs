@@ -10,7 +10,7 @@ use crate::model::word::{Number, Word};
 /// The cells that READ is to fill.
 pub const INBOX: u64 = 7;
 
-pub struct Room {
+pub struct Layout {
     pub program: u64,
     pub length: u64,
     /// Words that are numbers of moderate size.
@@ -26,9 +26,9 @@ pub const NUMBERS: u64 = 12;
 pub const STRANGERS: u64 = 5;
 pub const HOLES: u64 = 6;
 
-impl Room {
-    pub fn new(length: u64, draft: &mut Draft, chance: &mut Chance) -> Room {
-        Room {
+impl Layout {
+    pub fn new(length: u64, draft: &mut Draft, chance: &mut Chance) -> Layout {
+        Layout {
             program: draft.free(length, chance),
             length,
             numbers: draft.free(NUMBERS, chance),
