@@ -8,6 +8,7 @@ pub mod ByClass
 pub mod Gathered
 pub mod Punches
 pub mod Traces
+pub mod Orders
 pub mod DeckCards
 pub mod Blocks
 pub mod FitDrum

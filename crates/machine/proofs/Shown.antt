@@ -54,6 +54,9 @@ module _ {drum₀ drum marks : List ℕ} {v : List Cell} (h : Holds drum₀ drum
         drum-long = drum-long;
         marks-long = marks-long;
         words = λ a k. subst (λ (x : Cell). shown x ≤ 19999999999) (sym (cell-is a k)) (h .words a);
+        old = drum₀;
+        cells = v;
+        holds = h;
       }
 
   -- a store

@@ -55,7 +55,7 @@ module _ {drum₀ out₀ drum marks out : List ℕ} {at : ℕ} {s : State} {m : 
         le-leb (boxWord (m .state)) 19999999999 (omega (arith, box-is)),
         le-leb (wordOfA (m .cells) x) 19999999999 (of-a-fits (m .cells) x (h .memory .words)),
         le-leb (wordAt (m .cells) (bIn x)) 19999999999 (h .memory .words (bIn x)),
-        le-leb (wordAt (m .cells) 0) 19999999999 (h .memory .words 0)
+        le-leb (wordAt (m .cells) 0) 19999999999 (h .memory .words 0),
       )
 
   pub trace-sent : WroteCard (traceMay (u .counter) (u .location) (w ∷ x ∷ y ∷ p ∷ q ∷ r ∷ []) (u .problem))
@@ -75,7 +75,7 @@ module _ {drum₀ out₀ drum marks out : List ℕ} {at : ℕ} {s : State} {m : 
       record {
         memory = h .memory;
         output = subst (λ (n : ℕ). Wrote out₀ (putBack at out part) (at + n) (m .sent ++ card)) size
-        (sent-card (h .output) card part (traceMay (v .counter) (v .location) t (v .problem)) said (may (v .counter) k) fits w₂);
+            (sent-card (h .output) card part (traceMay (v .counter) (v .location) t (v .problem)) said (may (v .counter) k) fits w₂);
         state-is = state-up;
         steady = h .steady;
       }

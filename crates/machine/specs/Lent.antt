@@ -27,12 +27,6 @@ pub record Steady (problem : ℕ) (counts : List ℕ) : Type 0 where
   pub b-fits : getD counts 1 0 ≤ 999
   pub c-fits : getD counts 2 0 ≤ 999
 
--- what orders ask of the lent drum and marks: their lengths, and that a marked cell holds a word
-pub record Ready (drum marks : List ℕ) : Type 0 where
-  pub drum-long : length drum ≡ 1000
-  pub marks-long : length marks ≡ 1000
-  pub words : (a : ℕ) → a < 1000 → shown (cellOf (getD marks a 0) (getD drum a 0)) ≤ 19999999999
-
 -- the drum and the marks, by the cells
 pub record Holds (drum₀ drum marks : List ℕ) (v : List Cell) : Type 0 where
   pub drum-is : drum ≡ overlay drum₀ v
@@ -40,6 +34,15 @@ pub record Holds (drum₀ drum marks : List ℕ) (v : List Cell) : Type 0 where
   pub old-long : length drum₀ ≡ 1000
   pub long : length v ≡ 1000
   pub words : Words v
+
+-- what orders ask of the lent drum and marks: that they hold some cells; so their lengths, and that a marked cell holds a word
+pub record Ready (drum marks : List ℕ) : Type 0 where
+  pub drum-long : length drum ≡ 1000
+  pub marks-long : length marks ≡ 1000
+  pub words : (a : ℕ) → a < 1000 → shown (cellOf (getD marks a 0) (getD drum a 0)) ≤ 19999999999
+  pub old : List ℕ
+  pub cells : List Cell
+  pub holds : Holds old drum marks cells
 
 -- the output, by the bytes written
 pub record Wrote (out₀ out : List ℕ) (at : ℕ) (sent : List ℕ) : Type 0 where

@@ -97,3 +97,72 @@ fn trace(
     card::write_trace(&mut out[at..], s.counter, l, words, s.problem);
     s
 }
+
+// An operation, once the checks of its class have passed.
+fn perform(
+    drum: &mut [u64],
+    marks: &mut [u8],
+    out: &mut [u8],
+    at: usize,
+    state: State,
+    stop: bool,
+    o: Operation,
+    a: usize,
+    b: usize,
+    c: usize,
+    deck: &[u8],
+) -> Stepped
+    requires { ⌜ Ready (now drum) (now marks) × Steady (state .problem) (state .counts) × (at ≤ length (now out)) × (state .location < 1000) ⌝ }
+    requires { ⌜ (a < 1000) × (b < 1000) × (c < 1000) × Allowed o b c ⌝ }
+    ensures { λ r. ⌜ Does (now (drum .entry)) (now (marks .entry)) (now (out .entry)) at state
+        (now (drum .exit)) (now (marks .exit)) (now (out .exit)) r
+        (λ room m. performed (lent (now (deck .entry)) stop room) m o a b c) ⌝ }
+{
+    match o {
+        Operation::Reckon(k) => crate::reckoning::reckon_at(drum, marks, at, state, k, a, b, c),
+        Operation::Move => crate::reckoning::move_word(drum, marks, at, state, b, c),
+        Operation::Go(g) => crate::going::go(drum, marks, at, state, stop, g, b, c),
+        Operation::Loop(x, y, z) => crate::looping::go_round(at, state, x, y, z, b, c),
+        Operation::Change(k, x) => crate::changing::change(drum, marks, at, state, k, x, b, c),
+        Operation::Read => crate::reading::read(drum, marks, at, state, b, c, deck),
+        Operation::Pch => crate::punching::punch(drum, marks, out, at, state, b, c),
+        Operation::Trace(k) => crate::tracing::retrace(drum, marks, at, state, k),
+    }
+}
+
+// The order w as it is done: its code, the checks of its class, itself.
+fn obey(
+    drum: &mut [u64],
+    marks: &mut [u8],
+    out: &mut [u8],
+    at: usize,
+    state: State,
+    stop: bool,
+    w: u64,
+    deck: &[u8],
+) -> Stepped
+    requires { ⌜ Ready (now drum) (now marks) × Steady (state .problem) (state .counts) × (at ≤ length (now out)) × (state .location < 1000) ⌝ }
+    ensures { λ r. ⌜ Does (now (drum .entry)) (now (marks .entry)) (now (out .entry)) at state
+        (now (drum .exit)) (now (marks .exit)) (now (out .exit)) r
+        (λ room m. obeyed (lent (now (deck .entry)) stop room) m w) ⌝ }
+{
+    let a = (w % 10_000_000_000 / 1_000_000 % 1000) as usize;
+    let b = (w % 10_000_000_000 / 1000 % 1000) as usize;
+    let c = (w % 10_000_000_000 / 1 % 1000) as usize;
+    let Built::As(o, k) = crate::codes::look_up(state, w) else {
+        return Stepped {
+            outcome: Outcome::Undone(Refusal::NotBuilt),
+            at,
+            state,
+        };
+    };
+    let found = crate::checks::check(drum, marks, k, a, b, c);
+    match found {
+        Checked::Refuses(r) => Stepped {
+            outcome: Outcome::Undone(r),
+            at,
+            state,
+        },
+        Checked::Passes => perform(drum, marks, out, at, state, stop, o, a, b, c, deck),
+    }
+}

@@ -1,3 +1,4 @@
+use Rattle.machine.proofs.Orders.{sums-last}
 use borrow.Author.Tests.{eq-eqb, ne-eqb, le-leb, lt-leb}
 use borrow.Author.Needs.{needs}
 use Rattle.machine.proofs.running.order_fits.Statement.{statement}
@@ -39,7 +40,7 @@ add-result c = search needs
 
 -- src/running.rt:44:9
 returns-3 : tie.Need-returns-3
-returns-3 c = simp (eq-eqb _ _ (c .before .before .before .if1 .taken), le-leb _ _ (c .before .if2 .left), le-leb _ _ (c .if3 .left))
+returns-3 c = sums-last (c .before .before .before .before .args .state) (c .before .before .before .before .args .w) (c .before .before .before .if1 .taken) (c .before .if2 .left) (c .if3 .left)
 
 -- src/running.rt:32:1
 returns-4 : tie.Need-returns-4

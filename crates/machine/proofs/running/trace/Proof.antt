@@ -55,17 +55,19 @@ same-length c = search needs
 
 -- src/running.rt:75:1
 returns : tie.Need-returns
-returns c =
-    (c .before .before .before .before .numbered-next .ensures, λ drum₀ out₀ m h.
-    let a = c .before .before .before .before .before .before .before .before .before .before .before .before .args in
-    trace-sent h (a .w) (a .x) (c .before .before .before .before .before .before .before .before .box-word .result) (c .before .before .before .before .before .before .before .word-of-a .result) (c .before .before .before .before .before .before .word .result) (c .before .before .before .before .before .word2 .result) (c .before .before .write-trace .last .0)
-    (c .before .before .before .before .numbered-next .result) (c .before .before .write-trace .result)
-    (c .before .before .before .before .before .before .before .before .before .before .before .before .pre .1 .0) (c .before .before .before .before .before .before .before .before .before .before .before .before .pre .1 .1) (c .before .before .before .before .before .before .before .before .before .before .before .before .pre .1 .2) (c .before .before .before .before .before .before .before .before .before .before .before .before .pre .1 .3) (c .before .before .before .before .before .before .before .before .before .before .before .before .pre .1 .4)
-    (c .before .before .before .before .before .before .before .before .box-word .ensures .0) (c .before .before .before .before .before .before .before .before .box-word .ensures .1)
-    (c .before .before .before .before .before .before .before .word-of-a .ensures drum₀ (m .cells) (h .memory))
-    (word-is (h .memory) (bIn (a .x)) (c .before .before .before .before .before .before .word .result) (omega arith) (c .before .before .before .before .before .before .word .ensures))
-    (word-is (h .memory) 0 (c .before .before .before .before .before .word2 .result) (omega arith) (c .before .before .before .before .before .word2 .ensures))
-    (c .before .before .before .before .numbered-next .ensures) (c .before .before .write-trace .ensures))
+returns c = (
+  c .before .before .before .before .numbered-next .ensures,
+  λ drum₀ out₀ m h.
+      let a = c .before .before .before .before .before .before .before .before .before .before .before .before .args in
+      trace-sent h (a .w) (a .x) (c .before .before .before .before .before .before .before .before .box-word .result) (c .before .before .before .before .before .before .before .word-of-a .result) (c .before .before .before .before .before .before .word .result) (c .before .before .before .before .before .word2 .result) (c .before .before .write-trace .last .0)
+      (c .before .before .before .before .numbered-next .result) (c .before .before .write-trace .result)
+      (c .before .before .before .before .before .before .before .before .before .before .before .before .pre .1 .0) (c .before .before .before .before .before .before .before .before .before .before .before .before .pre .1 .1) (c .before .before .before .before .before .before .before .before .before .before .before .before .pre .1 .2) (c .before .before .before .before .before .before .before .before .before .before .before .before .pre .1 .3) (c .before .before .before .before .before .before .before .before .before .before .before .before .pre .1 .4)
+      (c .before .before .before .before .before .before .before .before .box-word .ensures .0) (c .before .before .before .before .before .before .before .before .box-word .ensures .1)
+      (c .before .before .before .before .before .before .before .word-of-a .ensures drum₀ (m .cells) (h .memory))
+      (word-is (h .memory) (bIn (a .x)) (c .before .before .before .before .before .before .word .result) (omega arith) (c .before .before .before .before .before .before .word .ensures))
+      (word-is (h .memory) 0 (c .before .before .before .before .before .word2 .result) (omega arith) (c .before .before .before .before .before .word2 .ensures))
+      (c .before .before .before .before .numbered-next .ensures) (c .before .before .write-trace .ensures),
+)
 
 pub trace-spec : {M : Type 1} → statement M
 trace-spec =
