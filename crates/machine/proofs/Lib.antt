@@ -9,6 +9,7 @@ pub mod Gathered
 pub mod Punches
 pub mod Traces
 pub mod Orders
+pub mod Steps
 pub mod DeckCards
 pub mod Blocks
 pub mod FitDrum

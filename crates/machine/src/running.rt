@@ -166,3 +166,64 @@ fn obey(
         Checked::Passes => perform(drum, marks, out, at, state, stop, o, a, b, c, deck),
     }
 }
+
+// One order: its location, its cell, its sums, its trace card, itself.
+fn step(
+    drum: &mut [u64],
+    marks: &mut [u8],
+    out: &mut [u8],
+    at: usize,
+    state: State,
+    stop: bool,
+    deck: &[u8],
+) -> Stepped
+    requires { ⌜ Ready (now drum) (now marks) × Steady (state .problem) (state .counts) × (at ≤ length (now out)) ⌝ }
+    ensures { λ r. ⌜ Does (now (drum .entry)) (now (marks .entry)) (now (out .entry)) at state
+        (now (drum .exit)) (now (marks .exit)) (now (out .exit)) r
+        (λ room m. stepOf (lent (now (deck .entry)) stop room) m) ⌝ }
+{
+    let l = state.location;
+    if l == 0 {
+        return Stepped {
+            outcome: Outcome::Undone(Refusal::BadAddress),
+            at,
+            state,
+        };
+    }
+    if 999 < l {
+        return Stepped {
+            outcome: Outcome::Undone(Refusal::BadAddress),
+            at,
+            state,
+        };
+    }
+    let Cell::Owned(w) = crate::memory::cell(drum, marks, l) else {
+        return Stepped {
+            outcome: Outcome::Undone(Refusal::Unmarked),
+            at,
+            state,
+        };
+    };
+    let fits = order_fits(state, w);
+    if !fits {
+        return Stepped {
+            outcome: Outcome::Undone(Refusal::BadAddress),
+            at,
+            state,
+        };
+    }
+    let x = as_done(state, w);
+    let tracing = state.tracing;
+    if tracing == 1 {
+        if out.len() - at < 77 {
+            return Stepped {
+                outcome: Outcome::Undone(Refusal::NoRoom),
+                at,
+                state,
+            };
+        }
+        let s = trace(drum, marks, out, at, state, w, x);
+        return obey(drum, marks, out, at + 77, s, stop, x, deck);
+    }
+    obey(drum, marks, out, at, state, stop, x, deck)
+}
