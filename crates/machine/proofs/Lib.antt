@@ -10,6 +10,7 @@ pub mod Punches
 pub mod Traces
 pub mod Orders
 pub mod Steps
+pub mod Runs
 pub mod DeckCards
 pub mod Blocks
 pub mod FitDrum

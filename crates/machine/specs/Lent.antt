@@ -12,6 +12,7 @@ use Rattle.rules.specs.Running.{over, Course, RunResult}
 use Rattle.rules.specs.Loads.{LoadResult}
 use Rattle.rules.specs.declared.Cell.{Cell}
 use Rattle.rules.specs.declared.State.{State}
+use Rattle.rules.specs.declared.Ending.the-variants.{Ran as RanTo}
 use Rattle.machine.specs.declared.Stepped.{Stepped}
 use Rattle.machine.specs.declared.Ran.{Ran}
 use Rattle.machine.specs.declared.Loaded.{Loaded}
@@ -83,6 +84,12 @@ DoesQuietly drum marks at s drum′ marks′ r f = (out : List ℕ) → Does dru
 abbrev pub Sends : (drum marks out : List ℕ) → ℕ → State → (out′ : List ℕ) → ℕ → State → (Machine → Machine) → Type 0
 Sends drum marks out at s out′ at′ s′ f =
     (drum₀ out₀ : List ℕ) (m : Machine) → Shows drum₀ out₀ drum marks out at s m → Shows drum₀ out₀ drum marks out′ at′ s′ (f m)
+
+-- a run ended as the rules say
+pub record Ended (drum₀ out₀ drum marks out : List ℕ) (r : Ran) (x : Course) : Type 0 where
+  pub ending-is : r .ending ≡ RanTo (x .outcome)
+  pub count-is : r .count ≡ x .count
+  pub shows : Shows drum₀ out₀ drum marks out (r .written) (r .state) (x .machine)
 
 -- ---- what the two public functions say: every part of the answer and of what was lent
 

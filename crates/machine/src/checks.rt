@@ -14,7 +14,7 @@ use rules::Class;
 use rules::Refusal;
 
 // Whether a cell is marked.
-fn is_owned(drum: &[u64], marks: &[u8], a: usize) -> bool
+pub fn is_owned(drum: &[u64], marks: &[u8], a: usize) -> bool
     requires { ⌜ Ready (now drum) (now marks) × (a < 1000) ⌝ }
     ensures { λ r. ⌜ ((drum₀ : List ℕ) (v : List CellT) → Holds drum₀ (now (drum .entry)) (now (marks .entry)) v → r ≡ ownedAt v a) ⌝ }
 {

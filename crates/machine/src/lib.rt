@@ -3,6 +3,7 @@ mod changing;
 mod checking;
 mod checks;
 mod codes;
+mod entering;
 mod going;
 mod loading;
 mod looping;
@@ -15,6 +16,7 @@ mod states;
 mod tracing;
 
 pub use loading::load;
+pub use running::run;
 use rules::Ending;
 use rules::Loading;
 use rules::Outcome;

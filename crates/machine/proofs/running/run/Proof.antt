@@ -1,0 +1,109 @@
+use borrow.Author.Needs.{needs}
+use Rattle.machine.proofs.running.run.Statement.{statement}
+use Rattle.machine.proofs.running.run.Tie as tie
+use Rattle.machine.proofs.running.run.Reads as reads
+use Rattle.machine.proofs.running.run.Lts as lts
+use Rattle.card.proofs.check_deck.Reads as check-deck-reads
+use Rattle.machine.proofs.checking.is_fit.Reads as is-fit-reads
+use Rattle.machine.proofs.entering.state_fits.Reads as state-fits-reads
+use Rattle.machine.proofs.running.run_on.Reads as run-on-reads
+
+-- src/running.rt:315:9
+is-fit-requires : tie.Need-is-fit-requires
+is-fit-requires c κs = search needs
+
+-- src/running.rt:316:9
+same-length : tie.Need-same-length
+same-length c = search needs
+
+-- src/running.rt:316:9
+same-length-2 : tie.Need-same-length-2
+same-length-2 c = search needs
+
+-- src/running.rt:316:9
+returns : tie.Need-returns
+returns c = ?
+
+-- src/running.rt:323:9
+check-deck-requires : tie.Need-check-deck-requires
+check-deck-requires c κs = search needs
+
+-- src/running.rt:325:22
+enum-known-d : tie.Need-enum-known-d
+enum-known-d c = search needs
+
+-- src/running.rt:331:20
+enum-known-d-2 : tie.Need-enum-known-d-2
+enum-known-d-2 c = search needs
+
+-- src/running.rt:332:16
+state-fits-requires : tie.Need-state-fits-requires
+state-fits-requires c κs = ?
+
+-- src/running.rt:333:17
+run-on-requires : tie.Need-run-on-requires
+run-on-requires c κs = ?
+
+-- src/running.rt:333:17
+same-length-3 : tie.Need-same-length-3
+same-length-3 c = search needs
+
+-- src/running.rt:333:17
+same-length-4 : tie.Need-same-length-4
+same-length-4 c = search needs
+
+-- src/running.rt:333:17
+same-length-5 : tie.Need-same-length-5
+same-length-5 c = search needs
+
+-- src/running.rt:333:17
+returns-2 : tie.Need-returns-2
+returns-2 c = ?
+
+-- src/running.rt:303:1
+same-length-6 : tie.Need-same-length-6
+same-length-6 c = search needs
+
+-- src/running.rt:303:1
+same-length-7 : tie.Need-same-length-7
+same-length-7 c = search needs
+
+-- src/running.rt:303:1
+returns-3 : tie.Need-returns-3
+returns-3 c = ?
+
+-- src/running.rt:303:1
+same-length-8 : tie.Need-same-length-8
+same-length-8 c = search needs
+
+-- src/running.rt:303:1
+same-length-9 : tie.Need-same-length-9
+same-length-9 c = search needs
+
+-- src/running.rt:303:1
+returns-4 : tie.Need-returns-4
+returns-4 c = ?
+
+pub run-spec : {M : Type 1} → statement M
+run-spec =
+    tie.close
+    (tie.spec
+    is-fit-requires
+    same-length
+    same-length-2
+    returns
+    check-deck-requires
+    enum-known-d
+    enum-known-d-2
+    state-fits-requires
+    run-on-requires
+    same-length-3
+    same-length-4
+    same-length-5
+    returns-2
+    same-length-6
+    same-length-7
+    returns-3
+    same-length-8
+    same-length-9
+    returns-4)
