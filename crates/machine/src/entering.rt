@@ -27,7 +27,14 @@ fn box_fits(state: State) -> bool
 }
 
 // The place behind the deck's first-order card is `first`.
-pub fn state_fits(drum: &[u64], marks: &[u8], deck: &[u8], first: usize, state: State, budget: u64) -> bool
+pub fn state_fits(
+    drum: &[u64],
+    marks: &[u8],
+    deck: &[u8],
+    first: usize,
+    state: State,
+    budget: u64,
+) -> bool
     requires { ⌜ Ready (now drum) (now marks) ⌝ }
     ensures { λ r. ⌜ ((drum₀ : List ℕ) (v : List CellT) → Holds drum₀ (now (drum .entry)) (now (marks .entry)) v →
         r ≡ stateFits v (now (deck .entry)) first state budget) ⌝ }

@@ -16,11 +16,11 @@ mod states;
 mod tracing;
 
 pub use loading::load;
-pub use running::run;
 use rules::Ending;
 use rules::Loading;
 use rules::Outcome;
 use rules::State;
+pub use running::run;
 
 // What an order came to: its outcome, the bytes written by then, the state after it.
 pub struct Stepped {

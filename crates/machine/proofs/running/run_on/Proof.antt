@@ -33,9 +33,12 @@ abbrev μ-loop : tie.MeasureT-loop
 -- src/running.rt:277:5
 loop-holds : tie.Need-loop-holds Inv-loop μ-loop
 loop-holds c =
-    let a = c .before .before .before .before .args in
-    (begun (a .drum .now) (a .marks .now) (a .state), c .before .before .before .before .pre, omega arith,
-    ap (λ (k : ℕ). runFrom (inputs (a .deck .now) (a .out .now) (a .stop)) k (begun (a .drum .now) (a .marks .now) (a .state)) 0) (sub-zero (a .budget)))
+    let a = c .before .before .before .before .args in (
+      begun (a .drum .now) (a .marks .now) (a .state),
+      c .before .before .before .before .pre,
+      omega arith,
+      ap (λ (k : ℕ). runFrom (inputs (a .deck .now) (a .out .now) (a .stop)) k (begun (a .drum .now) (a .marks .now) (a .state)) 0) (sub-zero (a .budget)),
+    )
 
 -- src/running.rt:278:13
 step-requires : tie.Need-step-requires Inv-loop μ-loop
@@ -63,10 +66,13 @@ loop-again : tie.Need-loop-again Inv-loop μ-loop
 loop-again c =
     let a = c .before .before .before .before .before .before .before .before .before .before .before .before .before .before .before .before .before .before .before .args in
     let v = c .before .before .before .before .before .before .before .before .before .before .before .before .before .before .loop .inv in
-    let d = c .before .before .before .before .before .before .before .before .before .step .ensures (a .drum .now) (a .out .now) (v .0) (v .1) in
-    (step (inputs (a .deck .now) (a .out .now) (a .stop)) (v .0) .machine, d .shows, omega (arith, c .before .before .before .before .before .before .before .before .before .before .before .before .before .loop-test .taken),
-    run-more (inputs (a .deck .now) (a .out .now) (a .stop)) (a .budget) (c .before .before .before .before .before .before .before .before .before .before .before .before .before .before .loop .count) (v .0) (c .before .before .before .before .before .before .before .before .before .before .before .before .before .loop-test .taken)
-    (ap mayGoOn (sym (d .outcome-is)) ∙ sym (c .before .may-go-on .ensures) ∙ c .if1 .taken) ∙ v .3)
+    let d = c .before .before .before .before .before .before .before .before .before .step .ensures (a .drum .now) (a .out .now) (v .0) (v .1) in (
+      step (inputs (a .deck .now) (a .out .now) (a .stop)) (v .0) .machine,
+      d .shows,
+      omega (arith, c .before .before .before .before .before .before .before .before .before .before .before .before .before .loop-test .taken),
+      run-more (inputs (a .deck .now) (a .out .now) (a .stop)) (a .budget) (c .before .before .before .before .before .before .before .before .before .before .before .before .before .before .loop .count) (v .0) (c .before .before .before .before .before .before .before .before .before .before .before .before .before .loop-test .taken)
+          (ap mayGoOn (sym (d .outcome-is)) ∙ sym (c .before .may-go-on .ensures) ∙ c .if1 .taken) ∙ v .3,
+    )
 
 -- src/running.rt:288:32
 completed-by-requires : tie.Need-completed-by-requires Inv-loop μ-loop
