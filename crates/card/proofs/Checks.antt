@@ -95,7 +95,7 @@ met-other first d = by-kind (eqb (getD d 0 0) 84)
 abbrev pub part : List ℕ → ℕ → List ℕ
 part deck at = take (length deck - at) (drop at deck)
 
-part-is : (deck : List ℕ) (at : ℕ) → part deck at ≡ drop at deck
+pub part-is : (deck : List ℕ) (at : ℕ) → part deck at ≡ drop at deck
 part-is deck at = take-all (length deck - at) (drop at deck) (omega (arith, length-drop at deck))
 
 pub length-part : (deck : List ℕ) (at : ℕ) → length (part deck at) ≡ length deck - at

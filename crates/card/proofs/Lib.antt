@@ -3,3 +3,5 @@ pub mod Forms
 pub mod Checks
 pub mod Splices
 pub mod Writes
+pub mod OneAnswer
+pub mod Trips

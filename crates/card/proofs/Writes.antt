@@ -1,14 +1,73 @@
--- The three ways a writer ends: a field is out of range, the room is too small, or the whole card is written. Assumes nothing.
-use mathlib.Core.Path.{_≡_, refl, sym, ap, _∙_}
-use mathlib.Core.List.{List}
+-- What may be written, and the three ways a writer ends: a field is out of range, the room is too small, or the whole card is written.
+-- Assumes nothing.
+use mathlib.Core.Path.{_≡_, refl, sym, ap, ap₂, _∙_}
+use mathlib.Core.List.{List, [], _∷_}
 use mathlib.Core.Bool.{Bool, true, false}
-use Prim.Native.Nat.{ℕ, _≤_, _<_}
+use Prim.Native.Nat.{ℕ, zero, suc, _+_, _≤_, _<_}
+use native.Mathlib.Nat.{le-of-suc-le-suc}
+use native.Mathlib.Omega.{arith}
 use lib.Dec.{leb}
-use lib.ListN.{length}
-use borrow.Author.Tests.{le-leb, lt-leb}
-use Rattle.rules.specs.Words.{pick, both}
+use lib.ListN.{length, take}
+use borrow.Author.Tests.{le-leb, lt-leb, leb-true}
+use Rattle.rules.specs.Words.{pick, both, isWord}
+use Rattle.rules.specs.Cards.{cellsFit}
 use Rattle.rules.specs.Running.{over}
-use Rattle.card.specs.Written.{fits, Wrote, WroteLine}
+use Rattle.rules.proofs.Tests.{both-first, both-second}
+use Rattle.rules.proofs.Fields.{AllWords}
+use Rattle.card.specs.Written.{allWords, dataMay, fits, Wrote, WroteLine}
+
+-- ---- what may be written, as facts and as the test has it
+
+words-tested : (ws : List ℕ) → allWords ws ≡ true → AllWords ws
+unfolding allWords
+words-tested [] e i l = absurd (let z : ⊥ = omega arith in z)
+words-tested (w ∷ ws) e zero l = leb-true w 19999999999 (both-first (isWord w) (allWords ws) e)
+words-tested (w ∷ ws) e (suc i) l = words-tested ws (both-second (isWord w) (allWords ws) e) i (le-of-suc-le-suc l)
+
+pub all-tested : (ws : List ℕ) → AllWords ws → allWords ws ≡ true
+unfolding allWords
+all-tested [] h = refl
+all-tested (w ∷ ws) h = ap₂ both (le-leb w 19999999999 (h 0 (omega arith))) (all-tested ws (λ i l. h (suc i) (omega arith)))
+
+pub record May (number location : ℕ) (words : List ℕ) (n problem : ℕ) : Type 0 where
+  pub numbered : number ≤ 9999
+  pub some : 1 ≤ n
+  pub few : n ≤ 5
+  pub from : 1 ≤ location
+  pub upto : location + n ≤ 1000
+  pub posed : problem ≤ 999
+  pub signed : AllWords (take n words)
+
+pub may-is : (number location : ℕ) (words : List ℕ) (n problem : ℕ) → dataMay number location words n problem ≡ true → May number location words n problem
+may-is number location words n problem e =
+    let e₁ = both-second (leb number 9999) _ e in
+    let e₂ = both-second (leb 1 n) _ e₁ in
+    let e₃ = both-second (leb n 5) _ e₂ in
+    let e₄ = both-second (cellsFit location n) _ e₃ in
+    let c = both-first (cellsFit location n) _ e₃ in
+    record {
+      numbered = leb-true number 9999 (both-first (leb number 9999) _ e);
+      some = leb-true 1 n (both-first (leb 1 n) _ e₁);
+      few = leb-true n 5 (both-first (leb n 5) _ e₂);
+      from = leb-true 1 location (both-first (leb 1 location) _ c);
+      upto = leb-true (location + n) 1000 (both-second (leb 1 location) _ c);
+      posed = leb-true problem 999 (both-first (leb problem 999) _ e₄);
+      signed = words-tested (take n words) (both-second (leb problem 999) _ e₄);
+    }
+
+pub is-may : (number location : ℕ) (words : List ℕ) (n problem : ℕ) → May number location words n problem → dataMay number location words n problem ≡ true
+is-may number location words n problem m =
+    simp (
+      le-leb number 9999 (m .numbered),
+      le-leb 1 n (m .some),
+      le-leb n 5 (m .few),
+      le-leb 1 location (m .from),
+      le-leb (location + n) 1000 (m .upto),
+      le-leb problem 999 (m .posed),
+      all-tested (take n words) (m .signed),
+    )
+
+-- ---- how a writer ends
 
 refused : (may : Bool) (card before : List ℕ) → fits may card before ≡ false → Wrote may card before false before
 refused may card before e = record { answer = sym e; bytes = ap (λ (t : Bool). pick t (over card before) before) (sym e) }
@@ -30,6 +89,13 @@ whole-card may card before after e h q =
     let t : fits may card before ≡ true =
     ap (λ (t : Bool). both t (leb (length card) (length before))) e ∙ le-leb (length card) (length before) h in
     record { answer = sym t; bytes = q ∙ ap (λ (s : Bool). pick s (over card before) before) (sym t) }
+
+-- and the other way: where a card may be written and there is room for it, it was
+pub was-whole : {may : Bool} {card before after : List ℕ} {said : Bool} → Wrote may card before said after → may ≡ true → length card ≤ length before
+    → (said ≡ true) × (after ≡ over card before)
+was-whole {may} {card} {before} w e h =
+    let t : fits may card before ≡ true = ap₂ both e (le-leb (length card) (length before) h) in
+    (w .answer ∙ t, w .bytes ∙ ap (λ (s : Bool). pick s (over card before) before) t)
 
 pub no-line : (line before : List ℕ) → length before < length line → WroteLine line before 0 before
 no-line line before h =

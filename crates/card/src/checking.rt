@@ -16,7 +16,7 @@ use rules::Fault;
 fn is_second(kind: u8, first: usize) -> bool
     ensures { λ r. ⌜ r ≡ both (eqb kind firstKind) (ltb 0 first) ⌝ }
 {
-    if kind == 84 {
+    if kind == b'T' {
         return 0 < first;
     }
     false
@@ -27,7 +27,7 @@ fn is_second(kind: u8, first: usize) -> bool
 pub fn check_deck(deck: &[u8]) -> Deck
     ensures { λ r. ⌜ r ≡ deckOf (now (deck .entry)) ⌝ }
 {
-    if 65536 < deck.len() {
+    if 65_536 < deck.len() {
         return Deck::Faulty(DeckFault::TooLong);
     }
     let mut at: usize = 0;
@@ -68,7 +68,7 @@ pub fn check_deck(deck: &[u8]) -> Deck
             break 'cards Deck::Faulty(DeckFault::At(at, Fault::BadPlace(place)));
         }
         at += size;
-        if kind == 84 {
+        if kind == b'T' {
             first = at;
         }
     }

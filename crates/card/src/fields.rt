@@ -18,8 +18,8 @@ pub(crate) fn form_of(kind: u8) -> Form
     ensures { λ r. ⌜ FormIs kind r ⌝ }
 {
     match kind {
-        49..=53 => {
-            let n = (kind - 48) as usize;
+        b'1'..=b'5' => {
+            let n = (kind - b'0') as usize;
             Form {
                 words: n,
                 size: 11 + 11 * n,
@@ -27,7 +27,7 @@ pub(crate) fn form_of(kind: u8) -> Form
                 cells: n,
             }
         }
-        84 => Form {
+        b'T' => Form {
             words: 0,
             size: 7,
             place: 1,
@@ -46,10 +46,10 @@ pub(crate) fn form_of(kind: u8) -> Form
 pub(crate) fn is_digit(b: u8) -> bool
     ensures { λ r. ⌜ r ≡ isDigit b ⌝ }
 {
-    if b < 48 {
+    if b < b'0' {
         return false;
     }
-    b <= 57
+    b <= b'9'
 }
 
 // Whether a sign is due at place o of a card of n words.
@@ -72,10 +72,10 @@ pub(crate) fn is_due(n: usize, o: usize, b: u8) -> bool
     ensures { λ r. ⌜ r ≡ isDue n o b ⌝ }
 {
     if sign_due(n, o) {
-        if b == 43 {
+        if b == b'+' {
             return true;
         }
-        return b == 45;
+        return b == b'-';
     }
     is_digit(b)
 }
@@ -91,7 +91,7 @@ pub(crate) fn byte_at(d: &[u8], a: usize) -> u8
 pub(crate) fn figure(b: u8) -> u64
     ensures { λ r. ⌜ (r ≡ b - 48) × (r ≤ 207) ⌝ }
 {
-    if b < 48 { 0 } else { (b - 48) as u64 }
+    if b < b'0' { 0 } else { (b - b'0') as u64 }
 }
 
 // The number that n digits from place a on are.

@@ -28,7 +28,7 @@ fn put_line(out: &mut [u8], number: u64, a: usize, place: u64, b: usize)
     ensures { λ _. ⌜ now (out .exit) ≡ over (digits a number ++ 32 ∷ digits b place) (now (out .entry)) ⌝ }
 {
     put_field(out, 0, a, number);
-    put_byte(out, a, 32);
+    put_byte(out, a, b' ');
     put_field(out, a + 1, b, place);
 }
 

@@ -24,7 +24,7 @@ pub(crate) fn put_field(out: &mut [u8], a: usize, n: usize, x: u64)
     let mut i: usize = 0;
     while i < n {
         let d = digits::digit(x, n - 1 - i);
-        out[a + i] = 48 + d as u8;
+        out[a + i] = b'0' + d as u8;
         i += 1;
     }
 }
@@ -33,7 +33,7 @@ pub(crate) fn put_field(out: &mut [u8], a: usize, n: usize, x: u64)
 fn sign_of(w: u64) -> u8
     ensures { λ r. ⌜ r ≡ signByte w ⌝ }
 {
-    if w < 10000000000 { 43 } else { 45 }
+    if w < 10_000_000_000 { b'+' } else { b'-' }
 }
 
 // A word at place a: its sign and ten digits.

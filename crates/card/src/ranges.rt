@@ -13,7 +13,7 @@ fn all_words(words: &[u64], n: usize) -> bool
     let mut i: usize = 0;
     while i < n {
         let w = words[i];
-        if 19999999999 < w {
+        if 19_999_999_999 < w {
             return false;
         }
         i += 1;
@@ -71,8 +71,8 @@ pub(crate) fn stop_may(number: u64, location: usize, count: u64, shown: u64) -> 
     if 9999 < location {
         return false;
     }
-    if 999999 < count {
+    if 999_999 < count {
         return false;
     }
-    shown <= 19999999999
+    shown <= 19_999_999_999
 }

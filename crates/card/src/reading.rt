@@ -55,7 +55,7 @@ pub fn read_card(rest: &[u8]) -> Card
     if !cells_fit(location, cells) {
         return Card::Bad(Fault::BadPlace(place));
     }
-    if kind == 84 {
+    if kind == b'T' {
         let problem = number_in(rest, 4, 3);
         return Card::First {
             order: location as usize,
@@ -82,8 +82,8 @@ pub fn word_of(rest: &[u8], i: usize) -> u64
     }
     let at = 8 + 11 * i;
     let x = number_in(rest, at + 1, 10);
-    if byte_at(rest, at) == 45 {
-        return x + 10000000000;
+    if byte_at(rest, at) == b'-' {
+        return x + 10_000_000_000;
     }
     x
 }

@@ -33,7 +33,7 @@ pub fn write_data(
     }
     put_card(
         out,
-        48 + n as u8,
+        b'0' + n as u8,
         number,
         location as u64,
         &words,
@@ -59,7 +59,7 @@ pub fn write_trace(
     if out.len() < 77 {
         return false;
     }
-    put_card(out, 88, number, location as u64, &words, 6, problem);
+    put_card(out, b'X', number, location as u64, &words, 6, problem);
     true
 }
 
@@ -68,7 +68,7 @@ fn put_stop(out: &mut [u8], number: u64, location: u64, count: u64, shown: u64)
     requires { ⌜ 24 ≤ length (now out) ⌝ }
     ensures { λ _. ⌜ now (out .exit) ≡ over (stopCard number location count shown) (now (out .entry)) ⌝ }
 {
-    put_byte(out, 0, 90);
+    put_byte(out, 0, b'Z');
     put_field(out, 1, 2, number);
     put_field(out, 3, 4, location);
     put_field(out, 7, 6, count);

@@ -5,16 +5,14 @@ use mathlib.Core.Path.{_≡_, sym, ap, _∙_}
 use Prim.Native.Nat.{ℕ, _+_, _*_, _≤_}
 use native.Mathlib.Omega.{arith}
 use borrow.Author.Needs.{needs}
-use borrow.Author.Tests.{not-true, not-false, leb-true}
-use lib.Dec.{leb}
+use borrow.Author.Tests.{not-true, not-false}
 use lib.ListN.{length, take}
 use lib.Seq.{length-take-le}
 use Rattle.rules.specs.Cards.{digits, wordsBytes, dataCard}
 use Rattle.rules.specs.Running.{over}
 use Rattle.rules.proofs.Fields.{length-data}
-use Rattle.rules.proofs.Tests.{both-first, both-second}
 use Rattle.card.specs.Written.{dataMay}
-use Rattle.card.proofs.Writes.{out-of-range, no-room, whole-card}
+use Rattle.card.proofs.Writes.{may-is, out-of-range, no-room, whole-card}
 use Rattle.card.proofs.writing.write_data.Statement.{statement}
 use Rattle.card.proofs.writing.write_data.Tie as tie
 
@@ -27,16 +25,12 @@ data-may-requires c κs = search needs
 five : (c : tie.Start) → length (c .args .t4) ≡ 5
 five c = omega (arith, c .good)
 
--- a card that may be written has at most five words, and so many bytes
-may-few : (number location : ℕ) (ws : List ℕ) (n problem : ℕ) → dataMay number location ws n problem ≡ true → n ≤ 5
-may-few number location ws n problem e =
-    leb-true n 5 (both-first (leb n 5) _ (both-second (leb 1 n) _ (both-second (leb number 9999) _ e)))
-
+-- what is known of a card that may be written: its words, and how long it is
 may : (c : tie.Else1) → dataMay (c .before .before .before .before .args .number) (c .before .before .before .before .args .location) (c .before .before .before .before .args .t4) (c .before .before .before .before .args .n) (c .before .before .before .before .args .problem) ≡ true
 may c = sym (c .before .data-may .ensures) ∙ not-false _ (c .if1 .left)
 
 few : (c : tie.Else1) → c .before .before .before .before .args .n ≤ 5
-few c = let a = c .before .before .before .before .args in may-few (a .number) (a .location) (a .t4) (a .n) (a .problem) (may c)
+few c = let a = c .before .before .before .before .args in may-is (a .number) (a .location) (a .t4) (a .n) (a .problem) (may c) .few
 
 taken : (c : tie.Else1) → length (take (c .before .before .before .before .args .n) (c .before .before .before .before .args .t4)) ≡ c .before .before .before .before .args .n
 taken c =
