@@ -130,10 +130,6 @@ module _ {deck : List ℕ} {from b c at next : ℕ} (h : Judging deck from b c a
 
 -- ---- storing
 
-pub words-none : (d : List ℕ) (l : ℕ) (v : List Cell) → v ≡ wordsStored d l 0 v
-unfolding wordsStored
-words-none d l v = refl
-
 words-more : (d : List ℕ) (l i : ℕ) (v : List Cell) → store (wordsStored d l i v) (l + i) (wordIn d (wordPlace i)) ≡ wordsStored d l (i + 1) v
 unfolding wordsStored
 words-more d l i v = rw add-one
@@ -174,7 +170,7 @@ unfolding cardsStored
 stored-next k deck at end v q l = simp (lt-ltb at end l, q, cardsStored)
 
 module _ {drum₁ marks₁ d : List ℕ} {l : ℕ} {drum marks : List ℕ} {i : ℕ} (h : StoringWords drum₁ marks₁ d l drum marks i) where
-  pub storing-word : (w : ℕ) (drum′ marks′ : List ℕ) → w ≡ wordIn d (wordPlace i) → w ≤ 19999999999 → l + i < 1000
+  pub storing-word : (w : ℕ) (drum′ marks′ : List ℕ) → w ≡ wordIn d (wordPlace i) → wordIn d (wordPlace i) ≤ 19999999999 → l + i < 1000
       → drum′ ≡ set drum (l + i) w → marks′ ≡ set marks (l + i) 1 → StoringWords drum₁ marks₁ d l drum′ marks′ (i + 1)
   storing-word w drum′ marks′ q g k e f = record {
     drum-long = ap length e ∙ simp length-set (h .drum-long);
@@ -182,7 +178,7 @@ module _ {drum₁ marks₁ d : List ℕ} {l : ℕ} {drum marks : List ℕ} {i : 
     keeps = λ drum₀ v y.
         subst (λ (x : List Cell). Holds drum₀ drum′ marks′ x)
         (ap (store (wordsStored d l i v) (l + i)) q ∙ words-more d l i v)
-        (kept (h .keeps drum₀ v y) (l + i) w drum′ marks′ k g e f);
+        (kept (h .keeps drum₀ v y) (l + i) w drum′ marks′ k (omega arith) e f);
   }
 
 module _ {drum₁ marks₁ deck : List ℕ} {from end : ℕ} {drum marks : List ℕ} {at : ℕ} (h : StoringCards drum₁ marks₁ deck from end drum marks at) where

@@ -51,17 +51,21 @@ same-length-4 c = search needs
 
 returns-2 : tie.Need-returns-2
 returns-2 c =
-    never-other (c .before .before .before .before .before .before .before .before .before .before .before .before .before .args .deck .now) (sym (c .before .before .before .before .before .check-deck .ensures) ∙ c .before .before .before .d2 .given .1) (c .before .card-at .result) (sym (c .before .card-at .ensures)) (c .match2 .keys2)
+    let x = c .before .card-at in
+    never-other (c .before .before .before .before .before .before .before .before .before .before .before .before .before .args .deck .now) (sym (c .before .before .before .before .before .check-deck .ensures) ∙ c .before .before .before .d2 .given .1) (x .result) (sym (x .ensures)) (c .match2 .keys2)
 
 store-cards-requires : tie.Need-store-cards-requires
 store-cards-requires c κs =
-    let h = begins (c .before .before .before .before .before .before .before .before .before .before .before .before .before .before .before .before .before .args .drum .now) (c .before .before .before .before .before .before .before .before .before .before .before .before .before .before .before .before .before .args .marks .now) (sym (c .before .before .before .before .before .before .before .before .before .before .before .is-fit .ensures) ∙ not-false _ (c .before .before .before .before .before .before .before .before .before .before .if1 .left)) in
+    let a = c .before .before .before .before .before .before .before .before .before .before .before .before .before .before .before .before .before .args in
+    let h = begins (a .drum .now) (a .marks .now) (sym (c .before .before .before .before .before .before .before .before .before .before .before .is-fit .ensures) ∙ not-false _ (c .before .before .before .before .before .before .before .before .before .before .if1 .left)) in
     (drum-long h, marks-long h)
 
 keep-requires : tie.Need-keep-requires
 keep-requires c κs =
-    let h = begins (c .before .before .before .before .before .before .before .before .before .before .before .before .before .before .before .before .before .before .before .before .before .before .before .before .args .drum .now) (c .before .before .before .before .before .before .before .before .before .before .before .before .before .before .before .before .before .before .before .before .before .before .before .before .args .marks .now) (sym (c .before .before .before .before .before .before .before .before .before .before .before .before .before .before .before .before .before .before .is-fit .ensures) ∙ not-false _ (c .before .before .before .before .before .before .before .before .before .before .before .before .before .before .before .before .before .if1 .left)) in
-    (omega (arith, c .before .before .before .before .before .before .store-cards .kept .0, drum-long h), omega (arith, c .before .before .before .before .before .before .store-cards .kept .1 .0, marks-long h))
+    let a = c .before .before .before .before .before .before .before .before .before .before .before .before .before .before .before .before .before .before .before .before .before .before .before .before .args in
+    let w = c .before .before .before .before .before .before .store-cards in
+    let h = begins (a .drum .now) (a .marks .now) (sym (c .before .before .before .before .before .before .before .before .before .before .before .before .before .before .before .before .before .before .is-fit .ensures) ∙ not-false _ (c .before .before .before .before .before .before .before .before .before .before .before .before .before .before .before .before .before .if1 .left)) in
+    (omega (arith, w .kept .0, drum-long h), omega (arith, w .kept .1 .0, marks-long h))
 
 begin-requires : tie.Need-begin-requires
 begin-requires c κs = search needs
@@ -87,10 +91,12 @@ same-length-8 c = search needs
 returns-4 : tie.Need-returns-4
 returns-4 c =
     let a = c .before .before .before .before .before .before .before .before .before .before .before .before .before .before .before .before .before .before .before .before .before .before .before .before .before .before .before .before .before .before .args in
+    let w = c .before .before .before .before .before .before .before .before .before .before .before .before .store-cards in
+    let k = c .before .before .before .before .before .keep in
     load-done (a .drum .now) (a .marks .now) (a .deck .now) (a .state) (a .traced) (sym (c .before .before .before .before .before .before .before .before .before .before .before .before .before .before .before .before .before .before .before .before .before .before .before .before .is-fit .ensures) ∙ not-false _ (c .before .before .before .before .before .before .before .before .before .before .before .before .before .before .before .before .before .before .before .before .before .before .before .if1 .left))
-    (c .before .before .before .before .before .before .before .before .before .before .before .before .store-cards .last .0) (c .before .before .before .before .before .before .before .before .before .before .before .before .store-cards .last .1 .0) (c .before .before .before .before .before .keep .last .0) (c .before .before .before .before .before .keep .last .1 .0) (c .begin .result)
+    (w .last .0) (w .last .1 .0) (k .last .0) (k .last .1 .0) (c .begin .result)
     (sym (c .before .before .before .before .before .before .before .before .before .before .before .before .before .before .before .before .before .before .before .before .before .before .check-deck .ensures) ∙ c .before .before .before .before .before .before .before .before .before .before .before .before .before .before .before .before .before .before .before .before .d2 .given .1) (sym (c .before .before .before .before .before .before .before .before .before .before .before .before .before .before .before .before .before .before .card-at .ensures) ∙ c .before .before .before .before .before .before .before .before .before .before .before .before .before .before .before .before .order .given .1)
-    (c .before .before .before .before .before .before .before .before .before .before .before .before .store-cards .ensures) (c .before .before .before .before .before .keep .ensures .0) (c .before .before .before .before .before .keep .ensures .1) (c .begin .ensures)
+    (w .ensures) (k .ensures .0) (k .ensures .1) (c .begin .ensures)
 
 pub load-spec : {M : Type 1} → statement M
 load-spec =

@@ -31,8 +31,9 @@ refusal-requires c κs = search needs
 
 returns : tie.Need-returns Inv-loop μ-loop
 returns c =
+    let x = c .before .before .card-at in
     ap Fails (c .refusal .ensures)
-    ∙ judged-other (c .before .before .before .before .loop .inv) (c .before .before .card-at .result) (c .before .match .keys2) (sym (c .before .before .card-at .ensures)) (c .before .before .before .loop-test .taken)
+    ∙ judged-other (c .before .before .before .before .loop .inv) (x .result) (c .before .match .keys2) (sym (x .ensures)) (c .before .before .before .loop-test .taken)
 
 returns-2 : tie.Need-returns-2 Inv-loop μ-loop
 returns-2 c = judged-elsewhere (c .before .before .before .before .before .before .loop .inv) (sym (c .before .before .before .before .card-at .ensures) ∙ c .before .before .k .given .1) (c .before .before .before .before .before .loop-test .taken) (c .if1 .taken)

@@ -40,13 +40,15 @@ returns : tie.Need-returns
 returns c =
     λ stop out drum₀ out₀ m h.
     let a = c .before .before .before .before .before .before .before .before .before .before .before .before .before .before .before .before .before .args in
-    read-fits h (a .deck .now) stop (length out₀) (a .b) (a .c) (c .before .before .before .before .before .before .before .before .before .before .before .before .judge .ensures) (c .before .before .before .before .before .before .store-cards .last .0) (c .before .before .before .before .before .before .store-cards .last .1 .0) (c .went-to .result) (c .before .before .before .before .before .before .before .before .before .before .j .given .1) (c .before .before .before .before .before .before .store-cards .ensures)
+    let w = c .before .before .before .before .before .before .store-cards in
+    read-fits h (a .deck .now) stop (length out₀) (a .b) (a .c) (c .before .before .before .before .before .before .before .before .before .before .before .before .judge .ensures) (w .last .0) (w .last .1 .0) (c .went-to .result) (c .before .before .before .before .before .before .before .before .before .before .j .given .1) (w .ensures)
     (c .went-to .ensures ∙ ap (λ (x : State). wentTo x (a .state .location + 1)) (c .before .read-to .ensures))
 
 returns-2 : tie.Need-returns-2
 returns-2 c =
     λ stop out drum₀ out₀ m h.
-    read-fails h (c .before .before .before .before .before .before .before .before .args .deck .now) stop (length out₀) (c .before .before .before .before .before .before .before .before .args .b) (c .before .before .before .before .before .before .before .before .args .c) (c .before .before .before .judge .ensures) (c .before .j2 .given .1)
+    let a = c .before .before .before .before .before .before .before .before .args in
+    read-fails h (a .deck .now) stop (length out₀) (a .b) (a .c) (c .before .before .before .judge .ensures) (c .before .j2 .given .1)
 
 pub read-spec : {M : Type 1} → statement M
 read-spec =

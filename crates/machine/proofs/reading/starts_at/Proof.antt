@@ -24,7 +24,9 @@ enum-known-size : tie.Need-enum-known-size Inv-loop μ-loop
 enum-known-size c = search needs
 
 returns : tie.Need-returns Inv-loop μ-loop
-returns c = looking-other (c .before .before .before .loop .inv) (c .before .card-at .result) (c .match .keys2) (sym (c .before .card-at .ensures)) (c .before .before .loop-test .taken)
+returns c =
+    let x = c .before .card-at in
+    looking-other (c .before .before .before .loop .inv) (x .result) (c .match .keys2) (sym (x .ensures)) (c .before .before .loop-test .taken)
 
 add-at : tie.Need-add-at Inv-loop μ-loop
 add-at c =

@@ -18,7 +18,9 @@ abbrev μ-loop : tie.MeasureT-loop
 μ-loop drum₀ marks₀ deck from end at₀ drum marks at = end - at
 
 loop-holds : tie.Need-loop-holds Inv-loop μ-loop
-loop-holds c = record { cards = c .before .before .before .args .end; enough = omega arith; drum-long = c .before .before .before .pre .0; marks-long = c .before .before .before .pre .1; keeps = λ drum₀ v h. (v, h, refl) }
+loop-holds c =
+    let s = c .before .before .before in
+    record { cards = s .args .end; enough = omega arith; drum-long = s .pre .0; marks-long = s .pre .1; keeps = λ drum₀ v h. (v, h, refl) }
 
 card-at-requires : tie.Need-card-at-requires Inv-loop μ-loop
 card-at-requires c κs = search needs
@@ -33,7 +35,9 @@ same-length-2 : tie.Need-same-length-2 Inv-loop μ-loop
 same-length-2 c = c .before .before .before .loop .inv .marks-long ∙ sym (c .before .before .before .before .before .before .before .pre .1)
 
 returns : tie.Need-returns Inv-loop μ-loop
-returns c = storing-other (c .before .before .before .loop .inv) (c .before .card-at .result) (c .match .keys2) (sym (c .before .card-at .ensures)) (c .before .before .loop-test .taken)
+returns c =
+    let x = c .before .card-at in
+    storing-other (c .before .before .before .loop .inv) (x .result) (c .match .keys2) (sym (x .ensures)) (c .before .before .loop-test .taken)
 
 sub-store-words : tie.Need-sub-store-words Inv-loop μ-loop
 sub-store-words c =
@@ -50,10 +54,10 @@ part-store-words-end c = search needs
 
 store-words-requires : tie.Need-store-words-requires Inv-loop μ-loop
 store-words-requires c κs =
-    let deck = c .before .before .before .before .before .before .before .before .before .before .before .before .args .deck .now in
-    let at = c .before .before .before .before .before .before .before .before .loop .at in
-    let d = data-at deck at (sym (c .before .before .before .before .before .before .card-at .ensures) ∙ c .before .before .before .before .location .given .1) in
-    ((c .before .before .before .before .before .before .before .before .loop .inv .drum-long, c .before .before .before .before .before .before .before .before .loop .inv .marks-long), (d .upto, λ i l. subst (λ (x : List ℕ). wordIn x (wordPlace i) ≤ 19999999999) (sym (rest-is deck at)) (d .are-words i l)))
+    let l = c .before .before .before .before .before .before .before .before .loop in
+    let d = data-at (c .before .before .before .before .before .before .before .before .before .before .before .before .args .deck .now) (l .at) (sym (c .before .before .before .before .before .before .card-at .ensures) ∙ c .before .before .before .before .location .given .1) in
+    let same = sym (rest-is (c .before .before .before .before .before .before .before .before .before .before .before .before .args .deck .now) (l .at)) in
+    ((l .inv .drum-long, l .inv .marks-long), (d .upto, λ i k. subst (λ (x : List ℕ). wordIn x (wordPlace i) ≤ 19999999999) same (d .are-words i k)))
 
 add-at : tie.Need-add-at Inv-loop μ-loop
 add-at c =
@@ -67,13 +71,13 @@ loop-less c =
 
 loop-again : tie.Need-loop-again Inv-loop μ-loop
 loop-again c =
-    let drum′ = c .before .before .before .before .store-words .last .0 in
-    let marks′ = c .before .before .before .before .store-words .last .1 .0 in
-    let x = c .before .before .before .before .before .before .before .before .before .location .given .0 in
-    storing-more (c .before .before .before .before .before .before .before .before .before .before .before .before .before .loop .inv) drum′ marks′ (sym (c .before .before .before .before .before .before .before .before .before .before .before .card-at .ensures) ∙ c .before .before .before .before .before .before .before .before .before .location .given .1) (c .before .before .before .before .before .before .before .before .before .before .before .before .loop-test .taken)
-    (c .before .before .before .before .store-words .kept .0 ∙ c .before .before .before .before .before .before .before .before .before .before .before .before .before .loop .inv .drum-long) (c .before .before .before .before .store-words .kept .1 .0 ∙ c .before .before .before .before .before .before .before .before .before .before .before .before .before .loop .inv .marks-long)
-    (subst (λ (y : List ℕ). Keeps (c .before .before .before .before .before .before .before .before .before .before .before .before .before .loop .drum) (c .before .before .before .before .before .before .before .before .before .before .before .before .before .loop .marks) drum′ marks′ (wordsStored y (x .1 .0) (x .1 .1 .0)))
-    (rest-is (c .before .before .before .before .before .before .before .before .before .before .before .before .before .before .before .before .before .args .deck .now) (c .before .before .before .before .before .before .before .before .before .before .before .before .before .loop .at)) (c .before .before .before .before .store-words .ensures))
+    let l = c .before .before .before .before .before .before .before .before .before .before .before .before .before .loop in
+    let x = c .before .before .before .before .before .before .before .before .before .location .given in
+    let w = c .before .before .before .before .store-words in
+    storing-more (l .inv) (w .last .0) (w .last .1 .0) (sym (c .before .before .before .before .before .before .before .before .before .before .before .card-at .ensures) ∙ x .1) (c .before .before .before .before .before .before .before .before .before .before .before .before .loop-test .taken)
+    (w .kept .0 ∙ l .inv .drum-long) (w .kept .1 .0 ∙ l .inv .marks-long)
+    (subst (λ (y : List ℕ). Keeps (l .drum) (l .marks) (w .last .0) (w .last .1 .0) (wordsStored y (x .0 .1 .0) (x .0 .1 .1 .0)))
+    (rest-is (c .before .before .before .before .before .before .before .before .before .before .before .before .before .before .before .before .before .args .deck .now) (l .at)) (w .ensures))
 
 same-length-3 : tie.Need-same-length-3 Inv-loop μ-loop
 same-length-3 c = c .before .loop .inv .drum-long ∙ sym (c .before .before .before .before .before .pre .0)
