@@ -1,0 +1,18 @@
+-- `panel::l1_abs` meets its contract: it tells what `number::abs` answers, and that is the rules' answer. Assumes nothing.
+use mathlib.Core.Path.{_∙_, ap}
+use borrow.Author.Needs.{needs}
+use Rattle.panel.specs.Told.{wordTold}
+use Rattle.panel.proofs.l1_abs.Statement.{statement}
+use Rattle.panel.proofs.l1_abs.Tie as tie
+
+abs-requires : tie.Need-abs-requires
+abs-requires c κs = search needs
+
+word-told-requires : tie.Need-word-told-requires
+word-told-requires c κs = search needs
+
+returns : tie.Need-returns
+returns c = c .word-told .ensures ∙ ap wordTold (c .before .abs .ensures)
+
+pub l1-abs-spec : {M : Type 1} → statement M
+l1-abs-spec = tie.close (tie.spec abs-requires word-told-requires returns)

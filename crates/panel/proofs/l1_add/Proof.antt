@@ -1,0 +1,18 @@
+-- `panel::l1_add` meets its contract: it tells what `number::add` answers, and that is the rules' answer. Assumes nothing.
+use mathlib.Core.Path.{_∙_, ap}
+use borrow.Author.Needs.{needs}
+use Rattle.panel.specs.Told.{wordTold}
+use Rattle.panel.proofs.l1_add.Statement.{statement}
+use Rattle.panel.proofs.l1_add.Tie as tie
+
+add-requires : tie.Need-add-requires
+add-requires c κs = search needs
+
+word-told-requires : tie.Need-word-told-requires
+word-told-requires c κs = search needs
+
+returns : tie.Need-returns
+returns c = c .word-told .ensures ∙ ap wordTold (c .before .add .ensures)
+
+pub l1-add-spec : {M : Type 1} → statement M
+l1-add-spec = tie.close (tie.spec add-requires word-told-requires returns)

@@ -1,0 +1,18 @@
+-- `panel::l1_mpy` meets its contract: it tells what `number::mpy` answers, and that is the rules' answer. Assumes nothing.
+use mathlib.Core.Path.{_∙_, ap}
+use borrow.Author.Needs.{needs}
+use Rattle.panel.specs.Told.{wordTold}
+use Rattle.panel.proofs.l1_mpy.Statement.{statement}
+use Rattle.panel.proofs.l1_mpy.Tie as tie
+
+mpy-requires : tie.Need-mpy-requires
+mpy-requires c κs = search needs
+
+word-told-requires : tie.Need-word-told-requires
+word-told-requires c κs = search needs
+
+returns : tie.Need-returns
+returns c = c .word-told .ensures ∙ ap wordTold (c .before .mpy .ensures)
+
+pub l1-mpy-spec : {M : Type 1} → statement M
+l1-mpy-spec = tie.close (tie.spec mpy-requires word-told-requires returns)

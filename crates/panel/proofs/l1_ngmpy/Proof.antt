@@ -1,0 +1,18 @@
+-- `panel::l1_ngmpy` meets its contract: it tells what `number::ngmpy` answers, and that is the rules' answer. Assumes nothing.
+use mathlib.Core.Path.{_∙_, ap}
+use borrow.Author.Needs.{needs}
+use Rattle.panel.specs.Told.{wordTold}
+use Rattle.panel.proofs.l1_ngmpy.Statement.{statement}
+use Rattle.panel.proofs.l1_ngmpy.Tie as tie
+
+ngmpy-requires : tie.Need-ngmpy-requires
+ngmpy-requires c κs = search needs
+
+word-told-requires : tie.Need-word-told-requires
+word-told-requires c κs = search needs
+
+returns : tie.Need-returns
+returns c = c .word-told .ensures ∙ ap wordTold (c .before .ngmpy .ensures)
+
+pub l1-ngmpy-spec : {M : Type 1} → statement M
+l1-ngmpy-spec = tie.close (tie.spec ngmpy-requires word-told-requires returns)

@@ -1,0 +1,18 @@
+-- `panel::l1_sqrt` meets its contract: it tells what `number::sqrt` answers, and that is the rules' answer. Assumes nothing.
+use mathlib.Core.Path.{_∙_, ap}
+use borrow.Author.Needs.{needs}
+use Rattle.panel.specs.Told.{wordTold}
+use Rattle.panel.proofs.l1_sqrt.Statement.{statement}
+use Rattle.panel.proofs.l1_sqrt.Tie as tie
+
+sqrt-requires : tie.Need-sqrt-requires
+sqrt-requires c κs = search needs
+
+word-told-requires : tie.Need-word-told-requires
+word-told-requires c κs = search needs
+
+returns : tie.Need-returns
+returns c = c .word-told .ensures ∙ ap wordTold (c .before .sqrt .ensures)
+
+pub l1-sqrt-spec : {M : Type 1} → statement M
+l1-sqrt-spec = tie.close (tie.spec sqrt-requires word-told-requires returns)

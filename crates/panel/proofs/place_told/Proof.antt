@@ -1,0 +1,30 @@
+-- `panel::place_told` meets its contract: of a good deck nothing is told, and of a fault each field is the rules' own. Assumes nothing.
+use mathlib.Core.Path.{refl}
+use borrow.Author.Needs.{needs}
+use Rattle.panel.proofs.place_told.Statement.{statement}
+use Rattle.panel.proofs.place_told.Tie as tie
+
+enum-told : tie.Need-enum-told
+enum-told c = search needs
+
+enum-known-x : tie.Need-enum-known-x
+enum-known-x c = search needs
+
+deck-number-requires : tie.Need-deck-number-requires
+deck-number-requires c κs = search needs
+
+deck-place-requires : tie.Need-deck-place-requires
+deck-place-requires c κs = search needs
+
+returns : tie.Need-returns
+returns c = rw (c .enum-told .given .1) refl
+
+returns-2 : tie.Need-returns-2
+returns-2 c =
+    rw (c .before .before .before .x .given .1)
+    (λ i. record { number = c .before .deck-number .ensures i; place = c .deck-place .ensures i })
+
+pub place-told-spec : {M : Type 1} → statement M
+place-told-spec =
+    tie.close
+    (tie.spec enum-told enum-known-x deck-number-requires deck-place-requires returns returns-2)

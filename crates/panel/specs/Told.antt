@@ -1,0 +1,16 @@
+-- What a C program is told of each answer: the paper's number for it, and the value that goes with it. Assumes nothing.
+use Rattle.rules.specs.Numbers.{reckonedNumber, reckonedWord, deckNumber, deckPlace}
+use Rattle.rules.specs.declared.Reckoned.{Reckoned}
+use Rattle.rules.specs.declared.Deck.{Deck}
+use Rattle.rules.specs.declared.Deck.the-variants.{Good, Faulty}
+use Rattle.panel.specs.declared.Word.{Word}
+use Rattle.panel.specs.declared.Place.{Place}
+
+-- of arithmetic: 0 and the word, or the stop number and 0
+abbrev pub wordTold : Reckoned → Word
+wordTold x = record { number = reckonedNumber x; word = reckonedWord x }
+
+-- of the check of a deck: 0 and 0, or the number of a faulty deck and the place of its first fault
+abbrev pub placeTold : Deck → Place
+placeTold (Good behind) = record { number = 0; place = 0 }
+placeTold (Faulty f) = record { number = deckNumber f; place = deckPlace f }
