@@ -2,10 +2,15 @@
 -- Assumes nothing.
 use Prim.Native.Nat.{ℕ}
 use mathlib.Core.Path.{_≡_, sym, _∙_}
-use Rattle.rules.specs.Numbers.{refusalNumber, reckonedNumber, reckonedWord, deckNumber, deckPlace}
+use Rattle.rules.specs.Numbers.{refusalNumber, reckonedNumber, reckonedWord, deckNumber, deckPlace, barNumber, barPlace}
+use Rattle.rules.specs.Numbers.{outcomeNumber, outcomeShown, endingNumber, endingPlace, endingShown, loadingNumber, loadingPlace}
 use Rattle.rules.specs.declared.Refusal.{Refusal}
 use Rattle.rules.specs.declared.Reckoned.{Reckoned}
 use Rattle.rules.specs.declared.DeckFault.{DeckFault}
+use Rattle.rules.specs.declared.Bar.{Bar}
+use Rattle.rules.specs.declared.Outcome.{Outcome}
+use Rattle.rules.specs.declared.Ending.{Ending}
+use Rattle.rules.specs.declared.Loading.{Loading}
 
 -- the answers r that a rule allows are one
 abbrev pub One : {A : Type 0} → A → Type 0
@@ -14,19 +19,37 @@ One {A} rule = (r q : A) → r ≡ rule → q ≡ rule → r ≡ q
 pub one : {A : Type 0} (rule : A) → One rule
 one rule r q i j = i ∙ sym j
 
-pub record OneAnswer (f : Refusal) (x : Reckoned) (d : DeckFault) : Type 0 where
+pub record OneAnswer (f : Refusal) (x : Reckoned) (d : DeckFault) (b : Bar) (o : Outcome) (e : Ending) (l : Loading) : Type 0 where
   pub refusal-number : One (refusalNumber f)
   pub reckoned-number : One (reckonedNumber x)
   pub reckoned-word : One (reckonedWord x)
   pub deck-number : One (deckNumber d)
   pub deck-place : One (deckPlace d)
+  pub bar-number : One (barNumber b)
+  pub bar-place : One (barPlace b)
+  pub outcome-number : One (outcomeNumber o)
+  pub outcome-shown : One (outcomeShown o)
+  pub ending-number : One (endingNumber e)
+  pub ending-place : One (endingPlace e)
+  pub ending-shown : One (endingShown e)
+  pub loading-number : One (loadingNumber l)
+  pub loading-place : One (loadingPlace l)
 
-pub one-answer : (f : Refusal) (x : Reckoned) (d : DeckFault) → OneAnswer f x d
-one-answer f x d =
+pub one-answer : (f : Refusal) (x : Reckoned) (d : DeckFault) (b : Bar) (o : Outcome) (e : Ending) (l : Loading) → OneAnswer f x d b o e l
+one-answer f x d b o e l =
     record {
       refusal-number = one (refusalNumber f);
       reckoned-number = one (reckonedNumber x);
       reckoned-word = one (reckonedWord x);
       deck-number = one (deckNumber d);
       deck-place = one (deckPlace d);
+      bar-number = one (barNumber b);
+      bar-place = one (barPlace b);
+      outcome-number = one (outcomeNumber o);
+      outcome-shown = one (outcomeShown o);
+      ending-number = one (endingNumber e);
+      ending-place = one (endingPlace e);
+      ending-shown = one (endingShown e);
+      loading-number = one (loadingNumber l);
+      loading-place = one (loadingPlace l);
     }

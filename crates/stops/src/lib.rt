@@ -1,10 +1,15 @@
 // The paper's number for each answer, and the value that goes with it. In code these numbers stand here and nowhere else; the rules
 // define them.
+use rules::Bar;
 use rules::DeckFault;
+use rules::Ending;
+use rules::Loading;
+use rules::Outcome;
 use rules::Reckoned;
 use rules::Refusal;
 ghost use mathlib.Core.Path.{_≡_};
-ghost use Rattle.rules.specs.Numbers.{refusalNumber, reckonedNumber, reckonedWord, deckNumber, deckPlace};
+ghost use Rattle.rules.specs.Numbers.{refusalNumber, reckonedNumber, reckonedWord, deckNumber, deckPlace, barNumber, barPlace};
+ghost use Rattle.rules.specs.Numbers.{outcomeNumber, outcomeShown, endingNumber, endingPlace, endingShown, loadingNumber, loadingPlace};
 
 // Why an order, or arithmetic on words, is refused.
 pub fn refusal_number(x: Refusal) -> u64
@@ -61,5 +66,96 @@ pub fn deck_place(x: DeckFault) -> u64
         DeckFault::TooLong => 65536,
         DeckFault::At(p, _) => p as u64,
         DeckFault::NoFirst(p) => p as u64,
+    }
+}
+
+// A call of load or run that is refused at its entry.
+pub fn bar_number(x: Bar) -> u64
+    ensures { λ r. ⌜ r ≡ barNumber x ⌝ }
+{
+    match x {
+        Bar::BadDrum => 10,
+        Bar::BadDeck(f) => deck_number(f),
+        Bar::BadState => 12,
+    }
+}
+
+pub fn bar_place(x: Bar) -> u64
+    ensures { λ r. ⌜ r ≡ barPlace x ⌝ }
+{
+    match x {
+        Bar::BadDrum => 0,
+        Bar::BadDeck(f) => deck_place(f),
+        Bar::BadState => 0,
+    }
+}
+
+// What a run came to, and the word it shows: +0 but for the two stops.
+pub fn outcome_number(x: Outcome) -> u64
+    ensures { λ r. ⌜ r ≡ outcomeNumber x ⌝ }
+{
+    match x {
+        Outcome::Stopped(_) => 0,
+        Outcome::Paused(_) => 1,
+        Outcome::GoesOn => 2,
+        Outcome::Undone(f) => refusal_number(f),
+    }
+}
+
+pub fn outcome_shown(x: Outcome) -> u64
+    ensures { λ r. ⌜ r ≡ outcomeShown x ⌝ }
+{
+    match x {
+        Outcome::Stopped(w) => w,
+        Outcome::Paused(w) => w,
+        Outcome::GoesOn => 0,
+        Outcome::Undone(_) => 0,
+    }
+}
+
+// A whole call of run.
+pub fn ending_number(x: Ending) -> u64
+    ensures { λ r. ⌜ r ≡ endingNumber x ⌝ }
+{
+    match x {
+        Ending::Ran(o) => outcome_number(o),
+        Ending::NotRun(b) => bar_number(b),
+    }
+}
+
+pub fn ending_place(x: Ending) -> u64
+    ensures { λ r. ⌜ r ≡ endingPlace x ⌝ }
+{
+    match x {
+        Ending::Ran(_) => 0,
+        Ending::NotRun(b) => bar_place(b),
+    }
+}
+
+pub fn ending_shown(x: Ending) -> u64
+    ensures { λ r. ⌜ r ≡ endingShown x ⌝ }
+{
+    match x {
+        Ending::Ran(o) => outcome_shown(o),
+        Ending::NotRun(_) => 0,
+    }
+}
+
+// A whole call of load: 0 where it is done.
+pub fn loading_number(x: Loading) -> u64
+    ensures { λ r. ⌜ r ≡ loadingNumber x ⌝ }
+{
+    match x {
+        Loading::Loaded => 0,
+        Loading::NotLoaded(b) => bar_number(b),
+    }
+}
+
+pub fn loading_place(x: Loading) -> u64
+    ensures { λ r. ⌜ r ≡ loadingPlace x ⌝ }
+{
+    match x {
+        Loading::Loaded => 0,
+        Loading::NotLoaded(b) => bar_place(b),
     }
 }
