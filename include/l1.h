@@ -1,9 +1,10 @@
-/* The C face of the L1 library: word arithmetic and the check of a deck.
+/* The C face of the L1 library: word arithmetic, the check of a deck, and load and run on a drum that the caller lends.
  *
  * Every function here takes any operands at all, answers, and keeps nothing between calls. What each answers is proved of the
  * library. What nothing can check is the caller's to see to:
- *   - each pointer is valid for the length that stands beside it, and is not null, also where the length is 0;
- *   - nothing else writes those bytes while the call runs.
+ *   - each pointer is valid for the length that stands beside it (a count of elements, not of bytes), is aligned for its type, and
+ *     is not null, also where the length is 0;
+ *   - no two runs that are lent to one call overlap, and nothing else reads or writes them while the call runs.
  *
  * A word is ten decimal digits and a sign in one 64-bit number: the digits, plus 10,000,000,000 for minus. The largest word is
  * 19,999,999,999, and minus zero, 10,000,000,000, is a word. A number of the machine is the word 0, or a word of either sign whose
@@ -51,6 +52,48 @@ struct l1_word l1_abs(uint64_t b);
 
 /* Whether the deck_len bytes at deck keep the card rules. The bytes are only read. */
 struct l1_place l1_deck(const uint8_t *deck, size_t deck_len);
+
+/* The state of the machine is nine numbers, which the caller keeps and both calls read and replace in place:
+ *   0       location of the next order
+ *   1 2 3   the loop box: the counts A, B and C
+ *   4       card counter
+ *   5       problem number
+ *   6       reader: the offset in the deck of the next card for READ
+ *   7       mode: 0 plain, 1 traced
+ *   8       tracing: 1 while it is on, else 0
+ *
+ * Drum and marks are two runs of 1,000, a cell each. A mark is 1 where the job owns the cell, else 0. The number in a cell that is not
+ * marked is never looked at and never changed, unless an order or a card stores there and so marks it. */
+
+/* Loads a deck: stores the words of the cards before the first-order card, makes cell 000 zero, marks every cell that it stores in,
+ * and sets all nine numbers of the state, in plain mode where traced is 0 and in traced mode where it is any other number.
+ * Answers 0 and 0 when that is done. Else nothing that was lent is changed, the state included, and the answer is the first of
+ *   10 and 0: the drum or the marks are not 1,000 long, a mark is above 1, or a marked cell holds more than 19,999,999,999;
+ *   11 and the place that l1_deck tells: the deck breaks a card rule;
+ *   12 and 0: state_len is not 9.
+ * The numbers that the state holds before the call are not judged. */
+struct l1_place l1_load(uint64_t *drum, size_t cells, uint8_t *marks, size_t marks_len, const uint8_t *deck, size_t deck_len,
+                        uint64_t *state, size_t state_len, uint64_t traced);
+
+/* What a run answers. */
+struct l1_ended {
+    uint64_t number;  /* how it ended: 0 or 1 for the two stops, 2 where the budget is used, 10, 11 or 12 where nothing was begun,
+                         20 to 29 where the order at the location was refused and undone */
+    uint64_t place;   /* with 11 the place that l1_deck tells, else 0 */
+    uint64_t count;   /* the orders completed in this call, an order that stopped the run among them */
+    uint64_t shown;   /* the word that a stop shows, as a number; 0 but for the stops 0 and 1 */
+    uint64_t written; /* how many bytes at the start of the output hold cards of this call; the bytes past them are as before */
+};
+
+/* Runs orders from the location on, at most budget of them, with the PROGRAMMED STOP switch on RUN where stop is 0 and on STOP where
+ * it is any other number. Cards for READ come from the deck behind the reader; cards punched and trace cards go to the room bytes at
+ * out. Drum, marks and state are left so that a later call goes on. Where nothing is begun, nothing that was lent is changed, and the
+ * number is the first of 10 and 11, as for l1_load, and
+ *   12: state_len is not 9, or the state or the budget is not one that a run may have: budget above 999,999, location above 1000, a
+ *       count above 999, card counter above 9999, problem number above 999, mode above 1, tracing above mode, cell 000 not marked, or
+ *       the reader neither at the start of a card behind the first-order card nor at the end of the deck. */
+struct l1_ended l1_run(uint64_t *drum, size_t cells, uint8_t *marks, size_t marks_len, const uint8_t *deck, size_t deck_len,
+                       uint8_t *out, size_t room, uint64_t *state, size_t state_len, uint64_t budget, uint64_t stop);
 
 #ifdef __cplusplus
 }

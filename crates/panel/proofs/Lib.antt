@@ -1,1 +1,4 @@
+mod Rows
+mod Outcomes
 pub mod OneAnswer
+pub mod Refused

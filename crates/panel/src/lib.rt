@@ -1,5 +1,10 @@
-// The C face: word arithmetic and the deck check, under the C calling convention and for any operands. include/l1.h declares what is
-// exported here.
+// The C face: word arithmetic and the deck check here, load and run in calls, each under the C calling convention and for any operands.
+// include/l1.h declares what is exported.
+mod calls;
+mod states;
+
+pub use calls::l1_load;
+pub use calls::l1_run;
 use rules::Deck;
 use rules::Reckoned;
 ghost use mathlib.Core.Path.{_≡_};
@@ -14,7 +19,7 @@ pub struct Word {
     pub word: u64,
 }
 
-// What the check of a deck tells: 0 and 0, or 11 and a place in the deck.
+// What the check of a deck tells: 0 and 0, or 11 and a place in the deck. What a load tells: 0 and 0, or why it is refused.
 #[repr(C)]
 pub struct Place {
     pub number: u64,
@@ -45,6 +50,16 @@ fn place_told(x: Deck) -> Place
             Place { number, place }
         }
     }
+}
+
+// What a run tells: how it ended, the place that goes with a refused call, the orders completed, the word shown and the bytes written.
+#[repr(C)]
+pub struct Ended {
+    pub number: u64,
+    pub place: u64,
+    pub count: u64,
+    pub shown: u64,
+    pub written: u64,
 }
 
 // Codes 1 to 5, on any two numbers of 64 bits.

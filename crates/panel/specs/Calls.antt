@@ -1,0 +1,81 @@
+-- What a C program is told of a call of load or run, and what the drum, the marks, the output and the nine numbers of the state that
+-- it lent then hold. Assumes nothing.
+use Prim.Native.Nat.{ℕ}
+use mathlib.Core.Path.{_≡_}
+use mathlib.Core.List.{List}
+use mathlib.Core.Bool.{Bool}
+use lib.Dec.{eqb, ltb}
+use lib.ListN.{length}
+use Rattle.rules.specs.Words.{pick}
+use Rattle.rules.specs.Numbers.{endingNumber, endingPlace, endingShown, loadingNumber, loadingPlace}
+use Rattle.rules.specs.Drum.{view, drumFits}
+use Rattle.rules.specs.Decks.{deckOf}
+use Rattle.rules.specs.Loads.{LoadResult, notLoaded, loaded}
+use Rattle.rules.specs.Running.{RunResult, notRun, ran}
+use Rattle.rules.specs.declared.Deck.{Deck}
+use Rattle.rules.specs.declared.Deck.the-variants.{Good, Faulty}
+use Rattle.rules.specs.declared.Bar.{Bar}
+use Rattle.rules.specs.declared.Bar.the-variants.{BadDrum, BadDeck, BadState}
+use Rattle.rules.specs.declared.Loading.{Loading}
+use Rattle.rules.specs.declared.Ending.{Ending}
+use Rattle.rules.specs.declared.Ending.the-variants.{Ran, NotRun}
+use Rattle.rules.specs.declared.State.{State}
+use Rattle.panel.specs.States.{stateIn, numbersOf}
+use Rattle.panel.specs.declared.Place.{Place}
+use Rattle.panel.specs.declared.Ended.{Ended}
+
+-- a switch is on at any number but 0
+abbrev pub isOn : ℕ → Bool
+isOn n = ltb 0 n
+
+-- A state that is not nine numbers long is refused as a bad state is, after the checks of the drum and of the deck.
+abbrev pub isState : List ℕ → Bool
+isState row = eqb (length row) 9
+
+abbrev pub barOf : Deck → Bar
+barOf (Faulty f) = BadDeck f
+barOf (Good first) = BadState
+
+unfoldable pub barred : List ℕ → List ℕ → List ℕ → Bar
+barred drum marks deck = pick (drumFits (length drum) marks (view drum marks)) (barOf (deckOf deck)) BadDrum
+
+-- why a run was refused at its entry; of one that was not, nobody asks
+abbrev pub barIn : Ending → Bar
+barIn (NotRun b) = b
+barIn (Ran o) = BadState
+
+-- the numbers of a state are replaced where they are nine, and else stay
+abbrev pub rowAfter : List ℕ → State → List ℕ
+rowAfter row s = pick (isState row) (numbersOf s) row
+
+-- ---- load
+
+unfoldable pub loadCalled : List ℕ → List ℕ → List ℕ → List ℕ → ℕ → LoadResult
+loadCalled drum marks deck row traced =
+    pick (isState row) (loaded drum marks deck (stateIn row) (isOn traced)) (notLoaded drum marks (stateIn row) (barred drum marks deck))
+
+abbrev pub loadingTold : Loading → Place
+loadingTold l = record { number = loadingNumber l; place = loadingPlace l }
+
+pub record LoadTold (row₀ : List ℕ) (x : LoadResult) (drum marks row : List ℕ) (r : Place) : Type 0 where
+  pub told-is : r ≡ loadingTold (x .loading)
+  pub drum-is : drum ≡ x .drum
+  pub marks-are : marks ≡ x .marks
+  pub row-is : row ≡ rowAfter row₀ (x .state)
+
+-- ---- run
+
+unfoldable pub runCalled : List ℕ → List ℕ → List ℕ → List ℕ → List ℕ → ℕ → ℕ → RunResult
+runCalled drum marks deck out row budget stop =
+    pick (isState row) (ran drum marks deck out (stateIn row) budget (isOn stop)) (notRun drum marks out (stateIn row) (barred drum marks deck))
+
+abbrev pub endingTold : Ending → ℕ → ℕ → Ended
+endingTold e count written =
+    record { number = endingNumber e; place = endingPlace e; count = count; shown = endingShown e; written = written }
+
+pub record RunTold (row₀ : List ℕ) (x : RunResult) (drum marks out row : List ℕ) (r : Ended) : Type 0 where
+  pub told-is : r ≡ endingTold (x .ending) (x .count) (x .written)
+  pub drum-is : drum ≡ x .drum
+  pub marks-are : marks ≡ x .marks
+  pub out-is : out ≡ x .out
+  pub row-is : row ≡ rowAfter row₀ (x .state)

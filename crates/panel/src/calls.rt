@@ -1,0 +1,125 @@
+// Load and run on what a C program lends. The state is nine numbers, read and replaced in place.
+ghost use mathlib.Core.Path.{_≡_};
+ghost use Rattle.panel.specs.Calls.{isOn, barred, barIn, loadCalled, loadingTold, LoadTold, runCalled, endingTold, RunTold};
+use crate::Ended;
+use crate::Place;
+use crate::states::put_state;
+use crate::states::state_in;
+use rules::Bar;
+use rules::Ending;
+use rules::Loading;
+use rules::State;
+
+// A switch is on at any number but 0.
+fn is_on(x: u64) -> bool
+    ensures { λ r. ⌜ r ≡ isOn x ⌝ }
+{
+    0 < x
+}
+
+// What is told of a load.
+fn loading_told(x: Loading) -> Place
+    ensures { λ r. ⌜ r ≡ loadingTold x ⌝ }
+{
+    let number = stops::loading_number(x);
+    let place = stops::loading_place(x);
+    Place { number, place }
+}
+
+// What is told of a run.
+fn ending_told(x: Ending, count: u64, written: usize) -> Ended
+    ensures { λ r. ⌜ r ≡ endingTold x count written ⌝ }
+{
+    let number = stops::ending_number(x);
+    let place = stops::ending_place(x);
+    let shown = stops::ending_shown(x);
+    Ended {
+        number,
+        place,
+        count,
+        shown,
+        written: written as u64,
+    }
+}
+
+// Why a run was refused at its entry; of one that was not, nobody asks.
+fn bar_in(x: Ending) -> Bar
+    ensures { λ r. ⌜ r ≡ barIn x ⌝ }
+{
+    match x {
+        Ending::NotRun(bar) => bar,
+        Ending::Ran(_) => Bar::BadState,
+    }
+}
+
+// Why a call is refused that brings no state: check 10, check 11, or else check 12. A run with a budget that no run may have is refused
+// by the first of them that fails, and changes nothing.
+fn why_barred(drum: &mut [u64], marks: &mut [u8], deck: &[u8]) -> Bar
+    ensures { λ r. ⌜ (r ≡ barred (now (drum .entry)) (now (marks .entry)) (now (deck .entry)))
+        × (now (drum .exit) ≡ now (drum .entry)) × (now (marks .exit) ≡ now (marks .entry)) ⌝ }
+{
+    let mut none = [0u8; 1];
+    let any = State {
+        location: 0,
+        counts: [0, 0, 0],
+        counter: 0,
+        problem: 0,
+        reader: 0,
+        mode: 0,
+        tracing: 0,
+    };
+    let x = machine::run(drum, marks, &mut none, deck, any, 1_000_000, false);
+    let ending = x.ending;
+    bar_in(ending)
+}
+
+// A load. Where it is refused, everything stays as it came.
+#[no_mangle]
+pub extern "C" fn l1_load(
+    drum: &mut [u64],
+    marks: &mut [u8],
+    deck: &[u8],
+    state: &mut [u64],
+    traced: u64,
+) -> Place
+    ensures { λ r. ⌜ LoadTold (now (state .entry)) (loadCalled (now (drum .entry)) (now (marks .entry)) (now (deck .entry)) (now (state .entry)) traced)
+        (now (drum .exit)) (now (marks .exit)) (now (state .exit)) r ⌝ }
+{
+    if state.len() != 9 {
+        let bar = why_barred(drum, marks, deck);
+        return loading_told(Loading::NotLoaded(bar));
+    }
+    let before = state_in(state);
+    let x = machine::load(drum, marks, deck, before, is_on(traced));
+    let after = x.state;
+    put_state(state, after);
+    let loading = x.loading;
+    loading_told(loading)
+}
+
+// A run of orders up to a budget.
+#[no_mangle]
+pub extern "C" fn l1_run(
+    drum: &mut [u64],
+    marks: &mut [u8],
+    deck: &[u8],
+    out: &mut [u8],
+    state: &mut [u64],
+    budget: u64,
+    stop: u64,
+) -> Ended
+    ensures { λ r. ⌜ RunTold (now (state .entry))
+        (runCalled (now (drum .entry)) (now (marks .entry)) (now (deck .entry)) (now (out .entry)) (now (state .entry)) budget stop)
+        (now (drum .exit)) (now (marks .exit)) (now (out .exit)) (now (state .exit)) r ⌝ }
+{
+    if state.len() != 9 {
+        let bar = why_barred(drum, marks, deck);
+        return ending_told(Ending::NotRun(bar), 0, 0);
+    }
+    let before = state_in(state);
+    let x = machine::run(drum, marks, out, deck, before, budget, is_on(stop));
+    let after = x.state;
+    put_state(state, after);
+    let ending = x.ending;
+    ending_told(ending, x.count, x.written)
+}
