@@ -1,5 +1,5 @@
-/* A table of calls of the C face with what the paper says of each: P1 to P10 of its table, the turns of its rules, and decks.
- * Writes a line for each wrong answer, and a last line with the counts. */
+/* A table of calls of the C face with what the paper says of each: P1 to P10 of its table, the turns of its rules, decks, the paper's
+ * session, and calls that are refused at their entry. Writes a line for each wrong answer, and a last line with the counts. */
 #include "l1.h"
 
 int printf(const char *format, ...);
@@ -164,6 +164,187 @@ static void long_decks(void)
     expect("a card more", r.number, r.place, 11, LONGEST);
 }
 
+/* ---- load and run. Cells that no card names are foreign, and hold numbers that are no words. */
+
+#define CELLS 1000
+#define ROOM 64
+#define STATE 9
+#define FOREIGN 18446744073709551615ul
+#define UNTOUCHED 0xA5
+
+static uint64_t drum[CELLS + 1], state[STATE + 1];
+static uint8_t marks[CELLS + 1], out[ROOM];
+static const char *const session = CARDS "T101007";
+
+static void clear(void)
+{
+    size_t i;
+
+    for (i = 0; i <= CELLS; i++) {
+        drum[i] = FOREIGN - i;
+        marks[i] = 0;
+    }
+    for (i = 0; i < ROOM; i++)
+        out[i] = UNTOUCHED;
+    for (i = 0; i <= STATE; i++)
+        state[i] = FOREIGN - i;
+}
+
+static struct l1_place load(const char *deck, size_t cells, size_t numbers, uint64_t traced)
+{
+    return l1_load(drum, cells, marks, CELLS, (const uint8_t *)deck, length(deck), state, numbers, traced);
+}
+
+static struct l1_ended run(const char *deck, size_t cells, size_t numbers, size_t room, uint64_t budget, uint64_t stop)
+{
+    return l1_run(drum, cells, marks, CELLS, (const uint8_t *)deck, length(deck), out, room, state, numbers, budget, stop);
+}
+
+static void expect_state(const char *what, const uint64_t *must)
+{
+    size_t i;
+    for (i = 0; i < STATE; i++)
+        expect(what, i, state[i], i, must[i]);
+}
+
+/* That the output holds a text, and what it held before behind it. */
+static void expect_out(const char *what, const char *text)
+{
+    size_t i, n = length(text), same = 0;
+    for (i = 0; i < ROOM; i++)
+        same += out[i] == (i < n ? (uint8_t)text[i] : UNTOUCHED);
+    expect(what, 0, same, 0, ROOM);
+}
+
+static void expect_ended(const char *what, struct l1_ended r, uint64_t number, uint64_t place, uint64_t count, uint64_t shown,
+                         uint64_t written)
+{
+    expect(what, r.number, r.place, number, place);
+    expect(what, r.count, r.shown, count, shown);
+    expect(what, r.written, 0, written, 0);
+}
+
+/* That nothing lent has changed since clear, but for the cells and marks up to a place. */
+static void expect_untouched(const char *what, size_t from)
+{
+    size_t i, changed = 0;
+    for (i = from; i <= CELLS; i++)
+        changed += drum[i] != FOREIGN - i || marks[i] != 0;
+    for (i = 0; i <= STATE; i++)
+        changed += state[i] != FOREIGN - i;
+    expect(what, 0, changed, 0, 0);
+    expect_out(what, "");
+}
+
+static void paper_session(void)
+{
+    static const uint64_t loaded[STATE] = {101, 0, 0, 0, 0, 7, 84, 0, 0};
+    static const uint64_t ended[STATE] = {103, 0, 0, 0, 1, 7, 84, 0, 0};
+    const char *what = "the paper's session";
+    struct l1_place l;
+    struct l1_ended r;
+    size_t i, owned = 0, kept = 0;
+
+    clear();
+    l = load(session, CELLS, STATE, 0);
+    expect(what, l.number, l.place, 0, 0);
+    expect_state(what, loaded);
+    expect(what, marks[0], drum[0], 1, 0);
+    expect(what, marks[202], drum[202], 0, FOREIGN - 202);
+    r = run(session, CELLS, STATE, ROOM, 1, 1);
+    expect_ended("its first order", r, 2, 0, 1, 0, 0);
+    r = run(session, CELLS, STATE, ROOM, 999999, 1);
+    expect_ended("its other two", r, 0, 0, 2, THREE, 22);
+    expect_out(what, "10001202+3000000050007");
+    expect_state(what, ended);
+    expect(what, marks[202], drum[202], 1, THREE);
+    for (i = 0; i < CELLS; i++) {
+        owned += marks[i];
+        kept += drum[i] == FOREIGN - i;
+    }
+    expect(what, owned, kept, 7, CELLS - 7);
+}
+
+/* The numbers of a stop, of a switch and of a mode that are neither 0 nor 1. */
+static void switches(void)
+{
+    static const char *const paused = "10000001+0200000003000T001000";
+    static const uint64_t traced[STATE] = {1, 0, 0, 0, 0, 0, 29, 1, 1};
+    struct l1_ended r;
+
+    clear();
+    load(paused, CELLS, STATE, 256);
+    expect_state("a traced load", traced);
+    load(paused, CELLS, STATE, 0);
+    r = run(paused, CELLS, STATE, ROOM, 1, 0);
+    expect_ended("the switch on RUN", r, 2, 0, 1, 0, 0);
+    load(paused, CELLS, STATE, 0);
+    r = run(paused, CELLS, STATE, ROOM, 1, 4294967296ul);
+    expect_ended("the switch on STOP", r, 1, 0, 1, 0, 0);
+    expect("the switch on STOP", 0, state[0], 0, 3);
+    load(paused, CELLS, STATE, 0);
+    state[7] = 2;
+    r = run(paused, CELLS, STATE, ROOM, 1, 0);
+    expect_ended("a mode of 2", r, 12, 0, 0, 0, 0);
+    expect("a mode of 2", 7, state[7], 7, 2);
+    state[7] = 1;
+    state[8] = 2;
+    r = run(paused, CELLS, STATE, ROOM, 1, 0);
+    expect_ended("tracing of 2", r, 12, 0, 0, 0, 0);
+    state[7] = 0;
+    state[8] = 1;
+    r = run(paused, CELLS, STATE, ROOM, 1, 0);
+    expect_ended("tracing in plain mode", r, 12, 0, 0, 0, 0);
+    state[8] = 0;
+    r = run(paused, CELLS, STATE, ROOM, 1000000, 0);
+    expect_ended("a budget of a million", r, 12, 0, 0, 0, 0);
+    r = run(paused, CELLS, STATE, ROOM, 0, 0);
+    expect_ended("no budget", r, 2, 0, 0, 0, 0);
+}
+
+/* Check 10 before 11 before 12, in both calls, with nothing changed. */
+static void refusals(void)
+{
+    static const struct {
+        const char *what, *deck;
+        size_t cells, numbers;
+        uint64_t number, place;
+    } all[] = {
+        {"a short drum, a bad deck, a short state", "T101007?", CELLS - 1, STATE - 1, 10, 0},
+        {"a long drum", CARDS "T101007", CELLS + 1, STATE, 10, 0},
+        {"a bad deck", "T101007?", CELLS, STATE, 11, 7},
+        {"a bad deck, no state", "T101007?", CELLS, 0, 11, 7},
+        {"a short state", CARDS "T101007", CELLS, STATE - 1, 12, 0},
+        {"a long state", CARDS "T101007", CELLS, STATE + 1, 12, 0},
+        {"no state", CARDS "T101007", CELLS, 0, 12, 0},
+    };
+    size_t i;
+
+    for (i = 0; i < COUNT(all); i++) {
+        clear();
+        struct l1_place l = load(all[i].deck, all[i].cells, all[i].numbers, 1);
+        expect(all[i].what, l.number, l.place, all[i].number, all[i].place);
+        expect_untouched(all[i].what, 0);
+        struct l1_ended r = run(all[i].deck, all[i].cells, all[i].numbers, ROOM, 1, 1);
+        expect_ended(all[i].what, r, all[i].number, all[i].place, 0, 0, 0);
+        expect_untouched(all[i].what, 0);
+    }
+    clear();
+    struct l1_ended r = run(session, CELLS, STATE, ROOM, 1, 1);
+    expect_ended("a state that no run may have", r, 12, 0, 0, 0, 0);
+    expect_untouched("a state that no run may have", 0);
+    drum[5] = 20000000000ul;
+    marks[5] = 1;
+    struct l1_place l = load(session, CELLS, STATE, 0);
+    expect("a marked cell that holds no word", l.number, l.place, 10, 0);
+    expect_untouched("a marked cell that holds no word", 6);
+    drum[5] = 0;
+    marks[5] = 2;
+    l = load(session, CELLS, STATE, 0);
+    expect("a mark of 2", l.number, l.place, 10, 0);
+    expect_untouched("a mark of 2", 6);
+}
+
 int main(void)
 {
     size_t i;
@@ -181,6 +362,9 @@ int main(void)
         expect(decks[i].what, r.number, r.place, decks[i].number, decks[i].place);
     }
     long_decks();
+    paper_session();
+    switches();
+    refusals();
     printf("panel: %d cases, %d wrong\n", tried, wrong);
     return wrong != 0;
 }

@@ -1,11 +1,12 @@
 /* Makes the calls that a stream of cases asks for, and writes the answers: the library's side of the comparison with the second
- * program, whose README has the formats. The one argument says what the cases are: numbers or decks. */
+ * program, whose README has the formats. The one argument says what the cases are: numbers, decks or sessions. */
 #include "l1.h"
 
 long read(int file, void *to, size_t most);
 long write(int file, const void *from, size_t most);
 void *realloc(void *old, size_t size);
 void *memcpy(void *to, const void *from, size_t n);
+void *memset(void *to, int byte, size_t n);
 int strcmp(const char *a, const char *b);
 void _exit(int status) __attribute__((noreturn));
 
@@ -89,32 +90,168 @@ static void numbers(void)
     }
 }
 
-/* Room for at least n bytes, and never none, so that no pointer that is lent is null. */
-static void *room_for(void *old, size_t *held, size_t n)
+/* Bytes that are lent to a call. */
+struct lent {
+    uint8_t *at;
+    size_t held, length;
+};
+
+/* What lies on the bench. Drum and state are runs of 64-bit numbers. */
+static struct lent drum, marks, deck, state, output;
+
+/* Makes the length n. A pointer that is lent is never null, not even at length 0. */
+static void stretch(struct lent *l, size_t n)
 {
-    if (n < *held)
-        return old;
-    *held = n + 1;
-    void *made = realloc(old, *held);
-    if (!made)
-        quit("driver: no memory\n");
-    return made;
+    if (l->held <= n) {
+        l->held = n + 1;
+        l->at = realloc(l->at, l->held);
+        if (!l->at)
+            quit("driver: no memory\n");
+    }
+    l->length = n;
+}
+
+static void take_all(struct lent *l, size_t n)
+{
+    stretch(l, n);
+    if (n && !take(l->at, n))
+        quit("driver: the cases end within one\n");
 }
 
 static void decks(void)
 {
-    uint8_t *deck = 0;
-    size_t held = 0;
     uint32_t length;
 
     while (take(&length, sizeof length)) {
-        deck = room_for(deck, &held, length);
-        if (length && !take(deck, length))
-            quit("driver: the cases end within one\n");
-        struct l1_place r = l1_deck(deck, length);
+        take_all(&deck, length);
+        struct l1_place r = l1_deck(deck.at, deck.length);
         put(r.number);
         put(r.place);
     }
+}
+
+static uint64_t number(void)
+{
+    uint64_t n;
+    if (!take(&n, sizeof n))
+        quit("driver: the cases end within one\n");
+    return n;
+}
+
+static uint64_t *numbers_of(const struct lent *l)
+{
+    return (uint64_t *)(void *)l->at;
+}
+
+static size_t count_of(const struct lent *l)
+{
+    return l->length / sizeof(uint64_t);
+}
+
+static void take_numbers(struct lent *l)
+{
+    take_all(l, number() * sizeof(uint64_t));
+}
+
+/* A drum and marks that are told by a rule and its exceptions. */
+static void take_sparse(void)
+{
+    size_t cells = number(), i, n;
+    uint64_t fill = number();
+
+    stretch(&drum, cells * sizeof(uint64_t));
+    for (i = 0; i < cells; i++)
+        numbers_of(&drum)[i] = fill * (i + 1);
+    for (n = number(); n; n--) {
+        i = number();
+        numbers_of(&drum)[i] = number();
+    }
+    stretch(&marks, number());
+    memset(marks.at, 0, marks.length);
+    for (n = number(); n; n--) {
+        i = number();
+        marks.at[i] = (uint8_t)number();
+    }
+}
+
+/* FNV-1a of 64 bits. */
+static uint64_t digest(const struct lent *l)
+{
+    uint64_t d = 0xCBF29CE484222325ul;
+    size_t i;
+    for (i = 0; i < l->length; i++)
+        d = (d ^ l->at[i]) * 0x100000001B3ul;
+    return d;
+}
+
+static void put_bench(void)
+{
+    size_t i;
+    for (i = 0; i < count_of(&state); i++)
+        put(numbers_of(&state)[i]);
+    put(digest(&drum));
+    put(digest(&marks));
+}
+
+static void load(void)
+{
+    struct l1_place r = l1_load(numbers_of(&drum), count_of(&drum), marks.at, marks.length, deck.at, deck.length,
+                                numbers_of(&state), count_of(&state), number());
+    put(r.number);
+    put(r.place);
+    put_bench();
+}
+
+static void run(void)
+{
+    stretch(&output, number());
+    uint64_t budget = number(), stop = number();
+    memset(output.at, 0xA5, output.length);
+    struct l1_ended r = l1_run(numbers_of(&drum), count_of(&drum), marks.at, marks.length, deck.at, deck.length,
+                               output.at, output.length, numbers_of(&state), count_of(&state), budget, stop);
+    put(r.number);
+    put(r.place);
+    put(r.count);
+    put(r.shown);
+    put(r.written);
+    put(digest(&output));
+    put_bench();
+}
+
+static void sessions(void)
+{
+    uint64_t tag;
+
+    while ((tag = number()) != 0)
+        switch (tag) {
+        case 1:
+            take_numbers(&drum);
+            take_all(&marks, number());
+            take_numbers(&state);
+            stretch(&deck, 0);
+            break;
+        case 2:
+            take_all(&deck, number());
+            break;
+        case 3:
+            load();
+            break;
+        case 4:
+            run();
+            break;
+        case 5:
+            take_numbers(&state);
+            break;
+        case 6:
+            break;
+        case 7:
+            take_sparse();
+            take_numbers(&state);
+            stretch(&deck, 0);
+            break;
+        default:
+            quit("driver: no such message\n");
+        }
 }
 
 int main(int words, char **word)
@@ -123,8 +260,10 @@ int main(int words, char **word)
         numbers();
     else if (words == 2 && !strcmp(word[1], "decks"))
         decks();
+    else if (words == 2 && !strcmp(word[1], "sessions"))
+        sessions();
     else
-        quit("driver: say numbers or decks\n");
+        quit("driver: say numbers, decks or sessions\n");
     flush();
     return 0;
 }
