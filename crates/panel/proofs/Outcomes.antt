@@ -8,22 +8,20 @@ use borrow.Author.Tests.{eq-eqb, ne-eqb}
 use Rattle.rules.specs.Words.{pick}
 use Rattle.rules.specs.Drum.{view, drumFits}
 use Rattle.rules.specs.Decks.{deckOf}
-use Rattle.rules.specs.Loads.{LoadResult, notLoaded, loaded}
+use Rattle.rules.specs.Loads.{LoadResult, loaded}
 use Rattle.rules.specs.Running.{RunResult, notRun, stateFits, ranOn, ran}
 use Rattle.rules.specs.declared.Deck.{Deck}
 use Rattle.rules.specs.declared.Deck.the-variants.{Good, Faulty}
 use Rattle.rules.specs.declared.Bar.{Bar}
 use Rattle.rules.specs.declared.Bar.the-variants.{BadDrum}
-use Rattle.rules.specs.declared.Loading.{Loading}
 use Rattle.rules.specs.declared.Loading.the-variants.{NotLoaded}
-use Rattle.rules.specs.declared.Ending.{Ending}
 use Rattle.rules.specs.declared.Ending.the-variants.{NotRun}
 use Rattle.rules.specs.declared.State.{State}
 use Rattle.machine.specs.Lent.{LoadRight, RunRight}
 use Rattle.machine.specs.declared.Loaded.{Loaded}
 use Rattle.machine.specs.declared.Ran.{Ran}
 use Rattle.panel.specs.States.{stateIn, numbersOf}
-use Rattle.panel.specs.Calls.{isOn, isState, barOf, barred, barIn, rowAfter, loadCalled, loadingTold, LoadTold, runCalled, endingTold, RunTold}
+use Rattle.panel.specs.Calls.{isOn, isState, barOf, barred, barIn, loadCalled, loadingTold, LoadTold, runCalled, endingTold, RunTold}
 use Rattle.panel.specs.declared.Place.{Place}
 use Rattle.panel.specs.declared.Ended.{Ended}
 

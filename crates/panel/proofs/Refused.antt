@@ -9,8 +9,8 @@ use borrow.Author.Tests.{eqb-true}
 use Rattle.rules.specs.Words.{pick}
 use Rattle.rules.specs.Drum.{view, drumFits}
 use Rattle.rules.specs.Decks.{deckOf}
-use Rattle.rules.specs.Loads.{LoadResult, notLoaded, loadedFrom, loaded}
-use Rattle.rules.specs.Running.{RunResult, notRun, begun, inputs, runFrom, stateFits, ranAs, ranOn, ran}
+use Rattle.rules.specs.Loads.{notLoaded, loadedFrom, loaded}
+use Rattle.rules.specs.Running.{notRun, begun, inputs, runFrom, stateFits, ranAs, ranOn, ran}
 use Rattle.rules.specs.declared.Deck.{Deck}
 use Rattle.rules.specs.declared.Deck.the-variants.{Good, Faulty}
 use Rattle.rules.specs.declared.Bar.{Bar}

@@ -1,7 +1,7 @@
 -- A list of nine numbers is its nine elements: so nine stores replace all of it, and the state in it has the same nine numbers.
 -- Assumes nothing.
-use Prim.Native.Nat.{ℕ, zero, suc, _-_}
-use mathlib.Core.Path.{_≡_, refl, sym, ap, subst}
+use Prim.Native.Nat.{ℕ, zero, suc}
+use mathlib.Core.Path.{_≡_, refl, ap, subst}
 use mathlib.Core.List.{List, [], _∷_}
 use lib.ListN.{length, getD, drop, set}
 use native.Mathlib.Omega.{arith}
