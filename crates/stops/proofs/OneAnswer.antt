@@ -1,6 +1,5 @@
 -- Each function here has one answer: its contract says what the answer equals, and two answers that equal a third are equal.
 -- Assumes nothing.
-use Prim.Native.Nat.{ℕ}
 use mathlib.Core.Path.{_≡_, sym, _∙_}
 use Rattle.rules.specs.Numbers.{refusalNumber, reckonedNumber, reckonedWord, deckNumber, deckPlace}
 use Rattle.rules.specs.declared.Refusal.{Refusal}
