@@ -9,8 +9,8 @@ use lib.Dec.{leb}
 use lib.ListN.{getD}
 use borrow.Author.Tests.{le-leb, lt-leb}
 use Rattle.rules.specs.Words.{both, isNumber}
-use Rattle.rules.specs.Drum.{cellOf, cellAt, wordAt, isOwned}
-use Rattle.rules.specs.Codes.{andThen, unless, blockFits, ownedAt, ownedFrom, addressCheck, markCheck, numberCheck, checked}
+use Rattle.rules.specs.Drum.{wordAt, isOwned}
+use Rattle.rules.specs.Codes.{andThen, unless, blockFits, ownedAt, ownedFrom, checked}
 use Rattle.rules.specs.declared.Cell.{Cell}
 use Rattle.rules.specs.declared.Checked.{Checked}
 use Rattle.rules.specs.declared.Checked.the-variants.{Passes, Refuses}

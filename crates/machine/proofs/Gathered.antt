@@ -1,12 +1,10 @@
 -- The words of a block, and of one card of it. Assumes nothing.
-use Prim.Native.Nat.{ℕ, zero, suc, _+_, _-_, _*_, _/_, _≤_, _<_}
+use Prim.Native.Nat.{ℕ, _+_, _<_}
 use mathlib.Core.Path.{_≡_, refl, sym, ap, subst, _∙_}
 use mathlib.Core.List.{List, [], _∷_, _++_}
-use mathlib.Core.Bool.{Bool, true, false}
-use native.Mathlib.Omega.{arith}
 use native.Mathlib.Numerals.{add-one}
-use lib.ListN.{length, getD, set, take, length-append}
-use lib.Seq.{take-suc-set, take-set-le}
+use lib.ListN.{length, set, take}
+use lib.Seq.{take-suc-set}
 use Rattle.rules.specs.Drum.{wordAt}
 use Rattle.rules.specs.Orders.{wordsFrom}
 use Rattle.rules.specs.declared.Cell.{Cell}

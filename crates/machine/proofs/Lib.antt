@@ -18,3 +18,4 @@ pub mod Begins
 pub mod GoodDecks
 pub mod Loads
 pub mod OneLoad
+pub mod OneRun

@@ -1,15 +1,12 @@
 -- Loops, said of the machine that the lent runs show: no count goes past 999, since a raised box stays only while its largest named
 -- count is below B. Assumes nothing.
-use Prim.Native.Nat.{ℕ, suc, _+_, _≤_, _<_, max}
-use mathlib.Core.Path.{_≡_, refl, sym, ap, subst, _∙_}
-use mathlib.Core.List.{List, [], _∷_}
+use Prim.Native.Nat.{ℕ, _+_, _≤_, _<_, max}
+use mathlib.Core.Path.{_≡_, refl, sym, ap, _∙_}
+use mathlib.Core.List.{List}
 use mathlib.Core.Bool.{Bool, true, false}
 use native.Mathlib.Omega.{arith}
-use lib.Dec.{ltb}
-use lib.ListN.{getD}
 use borrow.Author.Tests.{lt-ltb, le-ltb}
-use Rattle.rules.specs.Words.{pick}
-use Rattle.rules.specs.Machine.{Machine, wentTo, counting, countA, countB, countC, clearBox, withState, goingTo, onward, done}
+use Rattle.rules.specs.Machine.{Machine, wentTo, counting, countA, countB, countC, clearBox, done}
 use Rattle.rules.specs.Orders.{raise, named, raised, largest, looped}
 use Rattle.rules.specs.declared.State.{State}
 use Rattle.rules.specs.declared.Outcome.the-variants.{GoesOn}

@@ -1,21 +1,19 @@
 -- One order from its cell on, said of the machine that the lent runs show. Assumes nothing.
-use Prim.Native.Nat.{ℕ, _+_, _-_, _*_, _/_, _%_, _≤_, _<_}
+use Prim.Native.Nat.{ℕ, _+_, _*_, _/_, _%_, _≤_}
 use mathlib.Core.Path.{_≡_, refl, sym, ap, subst, _∙_}
 use mathlib.Core.Logic.{_⊎_, inl, inr}
 use mathlib.Core.List.{List, [], _∷_}
 use mathlib.Core.Bool.{Bool, true, false}
 use native.Mathlib.Omega.{arith}
-use lib.Dec.{eqb, leb, ltb}
-use lib.ListN.{length, getD}
-use borrow.Author.Tests.{eq-eqb, ne-eqb, le-leb, lt-leb, leb-true, eqb-true}
+use lib.Dec.{eqb, leb}
+use lib.ListN.{length}
+use borrow.Author.Tests.{eq-eqb, le-leb, leb-true, eqb-true}
 use Rattle.rules.specs.Words.{pick, both, signIn, aIn, bIn, cIn}
-use Rattle.rules.specs.Drum.{cellOf, cellAt}
-use Rattle.rules.specs.Codes.{Row, codes, lookup, codeIn, andThen, unless, blockFits, checked}
-use Rattle.rules.specs.Machine.{Machine, Inputs, Answer, countA, countB, countC, isTracing, undone, stops}
+use Rattle.rules.specs.Codes.{Row, codes, lookup, andThen, unless, blockFits, checked}
+use Rattle.rules.specs.Machine.{Machine, Answer, countA, countB, countC}
 use Rattle.rules.specs.Orders.{performed}
-use Rattle.rules.specs.Running.{orderFits, asDone, boxWord, allowed, obeyedAs, codeDone, obeyed, traceSent, traceSize, traced, fetched, step}
+use Rattle.rules.specs.Running.{orderFits, asDone, boxWord, allowed, obeyedAs, codeDone, obeyed}
 use Rattle.rules.specs.declared.Cell.{Cell}
-use Rattle.rules.specs.declared.Cell.the-variants.{Foreign, Owned}
 use Rattle.rules.specs.declared.State.{State}
 use Rattle.rules.specs.declared.Operation.{Operation}
 use Rattle.rules.specs.declared.Operation.the-variants.{Reckon, Move, Go, Loop, Change, Read, Pch, Trace}
@@ -26,15 +24,14 @@ use Rattle.rules.specs.declared.Checked.the-variants.{Passes, Refuses}
 use Rattle.rules.specs.declared.Built.{Built}
 use Rattle.rules.specs.declared.Built.the-variants.{As, No}
 use Rattle.rules.specs.declared.Refusal.{Refusal}
-use Rattle.rules.specs.declared.Refusal.the-variants.{BadAddress, Unmarked, NoRoom, NotBuilt}
+use Rattle.rules.specs.declared.Refusal.the-variants.{BadAddress, NotBuilt}
 use Rattle.rules.specs.declared.Outcome.the-variants.{Undone}
 use Rattle.rules.proofs.Tests.{both-first, both-second}
-use Rattle.machine.specs.Lent.{Steady, Shows, Did, lent}
+use Rattle.machine.specs.Lent.{Shows, Did, lent}
 use Rattle.machine.specs.Rows.{classNumber}
 use Rattle.machine.specs.Suits.{Allowed, Suits, SuitsBuilt}
 use Rattle.machine.specs.declared.Stepped.{Stepped}
-use Rattle.machine.proofs.Shown.{cell-is, stays, location-is}
-use Rattle.machine.proofs.Sent.{out-long}
+use Rattle.machine.proofs.Shown.{stays}
 use Rattle.machine.proofs.Rows.{classOf, class-again}
 
 -- ---- sums

@@ -1,16 +1,16 @@
 -- One card of a block punched, and the cards of a whole block, said of the machine that the lent runs show. Assumes nothing.
-use Prim.Native.Nat.{ℕ, zero, suc, _+_, _-_, _*_, _/_, _%_, _≤_, _<_}
+use Prim.Native.Nat.{ℕ, zero, suc, _+_, _-_, _*_, _≤_, _<_}
 use mathlib.Core.Path.{_≡_, refl, sym, ap, subst, _∙_}
 use mathlib.Core.List.{List, [], _∷_, _++_}
 use mathlib.Core.Bool.{Bool, true, false}
 use native.Mathlib.Omega.{arith}
-use lib.Dec.{eqb, leb, ltb}
+use lib.Dec.{ltb}
 use lib.ListN.{length, take, length-append}
 use borrow.Author.Tests.{le-leb, lt-leb, ne-eqb, eq-eqb, ltb-true, ltb-false}
 use Rattle.rules.specs.Words.{pick, both, isWord}
 use Rattle.rules.specs.Cards.{dataCard}
 use Rattle.rules.specs.Drum.{wordAt}
-use Rattle.rules.specs.Machine.{Machine, wentTo, numbered, withState, sending, onward}
+use Rattle.rules.specs.Machine.{Machine, wentTo, numbered, onward}
 use Rattle.rules.specs.Orders.{wordsFrom, five, cardPunched, cardsPunched, punchSize, punched}
 use Rattle.rules.specs.declared.Cell.{Cell}
 use Rattle.rules.specs.declared.State.{State}
@@ -19,7 +19,7 @@ use Rattle.rules.specs.declared.Refusal.the-variants.{NoRoom}
 use Rattle.machine.specs.declared.Stepped.{Stepped}
 use Rattle.rules.proofs.Fields.{length-data}
 use Rattle.card.specs.Written.{Wrote as WroteCard, allWords, dataMay}
-use Rattle.machine.specs.Lent.{Words, Steady, Holds, Shows, Did, lent}
+use Rattle.machine.specs.Lent.{Words, Steady, Shows, Did, lent}
 use Rattle.machine.proofs.Shown.{went, stays}
 use Rattle.machine.proofs.Sent.{partOf, putBack, out-long, sent-card}
 

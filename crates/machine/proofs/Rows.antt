@@ -1,17 +1,16 @@
 -- The table by the number of its row: the first row with a code is what looking the code up finds, and a code's slot is enough to find
 -- it. Assumes nothing.
-use Prim.Native.Nat.{ℕ, zero, suc, _+_, _-_, _*_, _≤_, _<_}
-use mathlib.Core.Path.{_≡_, refl, sym, ap, subst, _∙_}
+use Prim.Native.Nat.{ℕ, zero, suc, _+_, _*_, _≤_, _<_}
+use mathlib.Core.Path.{_≡_, refl, sym, ap, _∙_}
 use mathlib.Core.Logic.{_⊎_, inl, inr}
 use mathlib.Core.List.{List, [], _∷_}
 use mathlib.Core.Bool.{Bool, true, false}
 use native.Mathlib.Omega.{arith}
-use lib.Dec.{eqb, leb, ltb}
+use lib.Dec.{eqb}
 use lib.ListN.{length}
-use borrow.Author.Tests.{lt-ltb, le-ltb, eq-eqb, ne-eqb, eqb-true, eqb-false}
+use borrow.Author.Tests.{lt-ltb, le-ltb, eq-eqb, ne-eqb, eqb-false}
 use Rattle.rules.specs.Words.{pick, both, aIn, firstDigit}
-use Rattle.rules.specs.Codes.{Row, codes, lookup, codeIn, isBlockMove, pchCode, noopCode}
-use Rattle.rules.specs.Machine.{isTraced}
+use Rattle.rules.specs.Codes.{Row, codes, lookup, codeIn, isBlockMove, pchCode}
 use Rattle.rules.specs.Running.{codeDone}
 use Rattle.rules.specs.declared.State.{State}
 use Rattle.rules.specs.declared.Class.{Class}

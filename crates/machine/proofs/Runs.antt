@@ -1,20 +1,19 @@
 -- The budget's loop: a step that lets the run go on leaves the rest of the budget, and what the whole call then answers.
 -- Assumes nothing.
-use Prim.Native.Nat.{ℕ, zero, suc, _+_, _-_, _≤_, _<_}
-use mathlib.Core.Path.{_≡_, refl, sym, ap, subst, _∙_}
-use mathlib.Core.List.{List, []}
+use Prim.Native.Nat.{ℕ, suc, _+_, _-_, _≤_, _<_}
+use mathlib.Core.Path.{_≡_, refl, sym, ap, _∙_}
+use mathlib.Core.List.{List}
 use mathlib.Core.Bool.{Bool, true, false}
 use native.Mathlib.Omega.{arith}
-use native.Mathlib.Numerals.{add-one}
 use lib.Dec.{leb}
-use lib.ListN.{length, getD}
+use lib.ListN.{length}
 use borrow.Author.Tests.{leb-true}
-use Rattle.rules.specs.Words.{pick, both}
+use Rattle.rules.specs.Words.{pick}
 use Rattle.rules.specs.Numbers.{mayGoOn, completed}
-use Rattle.rules.specs.Drum.{view, cellAt, isOwned, drumFits}
-use Rattle.rules.specs.Decks.{deckOf, startsAt}
+use Rattle.rules.specs.Drum.{view, drumFits}
+use Rattle.rules.specs.Decks.{deckOf}
 use Rattle.rules.specs.Machine.{Machine, Inputs, countA, countB, countC}
-use Rattle.rules.specs.Running.{Course, step, runFrom, RunResult, over, begun, inputs, boxFits, stateFits, notRun, ranAs, ranOn, ran}
+use Rattle.rules.specs.Running.{step, runFrom, over, begun, inputs, boxFits, stateFits, notRun, ranAs, ranOn, ran}
 use Rattle.rules.specs.declared.Cell.{Cell}
 use Rattle.rules.specs.declared.State.{State}
 use Rattle.rules.specs.declared.Deck.{Deck}
@@ -24,7 +23,7 @@ use Rattle.rules.specs.declared.Bar.the-variants.{BadDrum, BadDeck, BadState}
 use Rattle.rules.specs.declared.Outcome.the-variants.{GoesOn}
 use Rattle.rules.specs.declared.Ending.the-variants.{NotRun}
 use Rattle.rules.proofs.Tests.{both-first, both-second}
-use Rattle.machine.specs.Lent.{Steady, Holds, Shows, Ended, RunRight}
+use Rattle.machine.specs.Lent.{Steady, Shows, Ended, RunRight}
 use Rattle.machine.specs.declared.Ran.{Ran}
 use Rattle.machine.proofs.Begins.{begins}
 

@@ -1,21 +1,19 @@
 -- What the lent runs show, said of plain lists: a cell read, a word stored, a card written, and an order that changes only the state.
 -- Assumes nothing.
-use Prim.Native.Nat.{ℕ, zero, suc, _+_, _≤_, _<_}
+use Prim.Native.Nat.{ℕ, zero, suc, _≤_, _<_}
 use mathlib.Core.Path.{_≡_, refl, sym, ap, subst, _∙_}
 use mathlib.Core.List.{List, [], _∷_}
 use native.Mathlib.Omega.{arith}
 use lib.ListN.{length, getD, set, length-set}
-use Rattle.rules.specs.Drum.{cellOf, cellAt, wordAt, shown, store, marksOf, overlay}
-use Rattle.rules.specs.Machine.{Machine, Answer, wentTo, withState, stored, goingTo, onward, done, undone, stops}
+use Rattle.rules.specs.Drum.{cellOf, cellAt, wordAt, shown, store}
+use Rattle.rules.specs.Machine.{Machine, wentTo, withState, stored, goingTo, done, stops}
 use Rattle.rules.specs.declared.Cell.{Cell}
 use Rattle.rules.specs.declared.Cell.the-variants.{Foreign, Owned}
 use Rattle.rules.specs.declared.State.{State}
-use Rattle.rules.specs.declared.Refusal.{Refusal}
 use Rattle.rules.specs.declared.Outcome.{Outcome}
-use Rattle.rules.specs.declared.Outcome.the-variants.{GoesOn, Undone}
+use Rattle.rules.specs.declared.Outcome.the-variants.{GoesOn}
 use Rattle.rules.proofs.Views.{length-overlay, length-marks, seen-at, marks-store, overlay-store}
-use Rattle.machine.specs.Lent.{Words, Steady, Ready, Holds, Wrote, Shows, Did}
-use Rattle.machine.specs.declared.Stepped.{Stepped}
+use Rattle.machine.specs.Lent.{Words, Steady, Ready, Holds, Shows, Did}
 
 -- ---- a cell by its mark and its number
 

@@ -1,17 +1,17 @@
 -- One step, said of the machine that the lent runs show: which way it goes, by location, cell, sums, tracing and room.
 -- Assumes nothing.
 use Prim.Native.Nat.{ℕ, _+_, _-_, _≤_, _<_}
-use mathlib.Core.Path.{_≡_, refl, sym, ap, subst, _∙_}
+use mathlib.Core.Path.{_≡_, sym, ap, _∙_}
 use mathlib.Core.List.{List}
 use mathlib.Core.Bool.{Bool, true, false}
 use native.Mathlib.Omega.{arith}
-use lib.Dec.{eqb, leb}
+use lib.Dec.{eqb}
 use lib.ListN.{length, getD}
 use borrow.Author.Tests.{eq-eqb, ne-eqb, le-leb, lt-leb}
-use Rattle.rules.specs.Words.{pick, both}
+use Rattle.rules.specs.Words.{pick}
 use Rattle.rules.specs.Drum.{cellOf, cellAt}
-use Rattle.rules.specs.Machine.{Machine, Inputs, Answer, isTracing, undone}
-use Rattle.rules.specs.Running.{orderFits, asDone, obeyed, traceSent, traceSize, traced, fetched, step}
+use Rattle.rules.specs.Machine.{Machine, isTracing, undone}
+use Rattle.rules.specs.Running.{orderFits, asDone, obeyed, traceSent, traced, fetched, step}
 use Rattle.rules.specs.declared.Cell.{Cell}
 use Rattle.rules.specs.declared.Cell.the-variants.{Foreign, Owned}
 use Rattle.rules.specs.declared.State.{State}

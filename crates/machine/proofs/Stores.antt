@@ -1,10 +1,10 @@
 -- A result at C and at 000, said of the machine that the lent runs show. Assumes nothing.
 use Prim.Native.Nat.{ℕ, _+_, _≤_, _<_}
-use mathlib.Core.Path.{_≡_, refl, sym, ap, subst, _∙_}
+use mathlib.Core.Path.{_≡_, refl, subst}
 use mathlib.Core.List.{List}
 use native.Mathlib.Omega.{arith}
 use lib.ListN.{set}
-use Rattle.rules.specs.Machine.{Machine, wentTo, onward, done, undone}
+use Rattle.rules.specs.Machine.{Machine, wentTo, onward, done}
 use Rattle.rules.specs.Orders.{resultAt, reckoned}
 use Rattle.rules.specs.declared.State.{State}
 use Rattle.rules.specs.declared.Reckoned.{Reckoned}

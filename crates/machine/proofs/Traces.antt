@@ -1,16 +1,16 @@
 -- Trace cards, said of the machine that the lent runs show. Assumes nothing.
-use Prim.Native.Nat.{ℕ, _+_, _*_, _%_, _≤_, _<_}
-use mathlib.Core.Path.{_≡_, refl, sym, ap, subst, _∙_}
+use Prim.Native.Nat.{ℕ, _+_, _≤_}
+use mathlib.Core.Path.{_≡_, sym, ap, subst, _∙_}
 use mathlib.Core.List.{List, [], _∷_, _++_}
 use mathlib.Core.Bool.{Bool, true, false}
 use native.Mathlib.Omega.{arith}
-use lib.Dec.{leb, ltb}
+use lib.Dec.{ltb}
 use lib.ListN.{length}
 use borrow.Author.Tests.{le-leb}
 use Rattle.rules.specs.Words.{pick, both, aIn, bIn, firstDigit}
 use Rattle.rules.specs.Cards.{traceCard}
 use Rattle.rules.specs.Drum.{wordAt}
-use Rattle.rules.specs.Machine.{Machine, numbered, withState, sending}
+use Rattle.rules.specs.Machine.{Machine, numbered}
 use Rattle.rules.specs.Running.{boxWord, wordOfA, traceWords, traceSent}
 use Rattle.rules.specs.declared.Cell.{Cell}
 use Rattle.rules.specs.declared.State.{State}

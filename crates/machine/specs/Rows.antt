@@ -2,9 +2,8 @@
 -- own index of rows: O2 where O1 is 0, else 1,000 more than O1; the last slot is for MOVE with A not 000. Assumes nothing.
 use Prim.Native.Nat.{ℕ, zero, suc, _+_, _-_, _*_}
 use mathlib.Core.List.{List, [], _∷_}
-use mathlib.Core.Bool.{Bool, true, false}
 use lib.Dec.{eqb, ltb}
-use Rattle.rules.specs.Words.{pick, both, aIn, firstDigit}
+use Rattle.rules.specs.Words.{pick, aIn, firstDigit}
 use Rattle.rules.specs.Codes.{Row, isBlockMove}
 use Rattle.rules.specs.declared.Operation.{Operation}
 use Rattle.rules.specs.declared.Operation.the-variants.{Move}

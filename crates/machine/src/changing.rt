@@ -1,8 +1,8 @@
 // Address changes: one address of the word at B.
 ghost use mathlib.Core.Path.{_≡_};
-ghost use Prim.Native.Nat.{ℕ, _+_, _<_, _≤_};
+ghost use Prim.Native.Nat.{_+_, _<_, _≤_};
 ghost use Rattle.rules.specs.Words.{withAddress, addressIn};
-ghost use Rattle.rules.specs.Orders.{newAddress, changedWord, changed};
+ghost use Rattle.rules.specs.Orders.{newAddress, changed};
 ghost use Rattle.rules.specs.Machine.{done};
 ghost use Rattle.machine.specs.Lent.{Ready, DoesQuietly};
 use crate::Stepped;

@@ -2,7 +2,6 @@
 ghost use mathlib.Core.Path.{_≡_};
 ghost use mathlib.Core.List.{List};
 ghost use Prim.Native.Nat.{ℕ, _+_, _-_, _<_, _≤_};
-ghost use lib.ListN.{length};
 ghost use Rattle.rules.specs.Codes.{ownedAt, ownedFrom, blockFits, unless, andThen, checked};
 ghost use Rattle.rules.specs.Words.{isNumber};
 ghost use Rattle.rules.specs.Drum.{wordAt};

@@ -1,6 +1,6 @@
 // The table of built codes, and what an order's code is in it.
 ghost use mathlib.Core.Path.{_≡_};
-ghost use Prim.Native.Nat.{ℕ, _+_, _<_, _≤_};
+ghost use Prim.Native.Nat.{_+_, _<_, _≤_};
 ghost use Rattle.rules.specs.Codes.{codes, lookup};
 ghost use Rattle.rules.specs.Running.{codeDone};
 ghost use Rattle.machine.specs.Rows.{rowIn, operationAt, classAt, slotOf, codeOf};

@@ -1,7 +1,7 @@
 // Check 12: the state that a run is given, with its budget and the deck that it is lent.
 ghost use mathlib.Core.Path.{_≡_};
 ghost use mathlib.Core.List.{List};
-ghost use Prim.Native.Nat.{ℕ, _≤_};
+ghost use Prim.Native.Nat.{ℕ};
 ghost use Rattle.rules.specs.Words.{both};
 ghost use Rattle.rules.specs.Running.{boxFits, stateFits};
 ghost use Rattle.rules.specs.declared.Cell.{Cell as CellT};

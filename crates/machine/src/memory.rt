@@ -1,8 +1,8 @@
 // The cells of a lent drum: read as the job sees them, stored into, and check 10.
 ghost use mathlib.Core.Path.{_≡_};
-ghost use Prim.Native.Nat.{ℕ, _+_, _<_, _≤_};
+ghost use Prim.Native.Nat.{_<_};
 ghost use lib.ListN.{length, getD, set};
-ghost use Rattle.rules.specs.Drum.{cellOf, shown, view, drumFits};
+ghost use Rattle.rules.specs.Drum.{cellOf, shown};
 use rules::Cell;
 
 // The cell at an address.

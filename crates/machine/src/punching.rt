@@ -4,7 +4,6 @@ ghost use mathlib.Core.List.{List};
 ghost use mathlib.Core.Bool.{Bool};
 ghost use Prim.Native.Nat.{ℕ, _+_, _*_, _-_, _<_, _≤_};
 ghost use lib.ListN.{length, take};
-ghost use Rattle.rules.specs.Cards.{dataSize};
 ghost use Rattle.rules.specs.Machine.{numbered, onward};
 ghost use Rattle.rules.specs.Orders.{five, wordsFrom, cardPunched, cardsPunched, punchSize, punched};
 ghost use Rattle.rules.specs.declared.Cell.{Cell as CellT};

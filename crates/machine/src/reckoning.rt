@@ -1,6 +1,6 @@
 // Arithmetic and MOVE 000: a result is stored at C and at 000.
 ghost use mathlib.Core.Path.{_≡_};
-ghost use Prim.Native.Nat.{ℕ, _+_, _<_, _≤_};
+ghost use Prim.Native.Nat.{_+_, _<_, _≤_};
 ghost use Rattle.rules.specs.Drum.{wordAt};
 ghost use Rattle.rules.specs.Machine.{done, onward};
 ghost use Rattle.rules.specs.Orders.{reckonedBy, reckoned, resultAt};

@@ -1,8 +1,8 @@
 // One change of the state each.
 ghost use mathlib.Core.Path.{_≡_};
 ghost use mathlib.Core.List.{[], _∷_};
-ghost use Prim.Native.Nat.{ℕ, _+_, _<_, _≤_};
-ghost use Rattle.rules.specs.Machine.{wentTo, counting, numbered, readTo, tracingSet, isTraced, isTracing};
+ghost use Prim.Native.Nat.{_+_};
+ghost use Rattle.rules.specs.Machine.{wentTo, counting, numbered, readTo, tracingSet};
 use rules::State;
 
 // The next order is at l.

@@ -1,7 +1,6 @@
 // Orders about tracing.
 ghost use mathlib.Core.Path.{_≡_};
-ghost use mathlib.Core.List.{List};
-ghost use Prim.Native.Nat.{ℕ, _+_, _<_, _≤_};
+ghost use Prim.Native.Nat.{_+_, _<_};
 ghost use Rattle.rules.specs.Orders.{tracingTo, retraced};
 ghost use Rattle.rules.specs.Machine.{done};
 ghost use Rattle.machine.specs.Lent.{Ready, DoesQuietly};

@@ -1,5 +1,5 @@
 -- The session of the paper, computed on the definitions. Assumes nothing.
-use mathlib.Core.Path.{_≡_, refl}
+use mathlib.Core.Path.{refl}
 use Rattle.rules.specs.Words
 use Rattle.rules.specs.Rounding
 use Rattle.rules.specs.Arithmetic

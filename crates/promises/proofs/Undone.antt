@@ -1,8 +1,8 @@
 -- Why refusals leave nothing: each order answers a refusal with the machine that it was given, and a call that is barred hands back
 -- what it was lent. Assumes nothing.
 use Prim.Native.Nat.{ℕ}
-use mathlib.Core.Path.{_≡_, refl, sym, ap, subst, _∙_}
-use mathlib.Core.Logic.{_⊎_, ⊎-elim}
+use mathlib.Core.Path.{_≡_, refl, sym, ap, subst}
+use mathlib.Core.Logic.{⊎-elim}
 use mathlib.Core.List.{List}
 use mathlib.Core.Bool.{Bool, true, false}
 use native.Mathlib.Omega.{arith}
@@ -10,21 +10,17 @@ use lib.ListN.{length}
 use Rattle.rules.specs.Numbers.{triesAgain}
 use Rattle.rules.specs.Drum.{view, cellAt, drumFits}
 use Rattle.rules.specs.Decks.{deckOf}
-use Rattle.rules.specs.Machine.{Machine, Inputs}
-use Rattle.rules.specs.Running.{asDone, traceSent, step, Left, RunResult, notRun, ranAs, stateFits, ranOn, ran}
-use Rattle.rules.specs.Loads.{LoadResult, notLoaded, loadedFrom, loaded}
+use Rattle.rules.specs.Machine.{Machine}
+use Rattle.rules.specs.Running.{asDone, traceSent, step, Left, notRun, ranAs, stateFits, ranOn, ran}
+use Rattle.rules.specs.Loads.{notLoaded, loadedFrom, loaded}
 use Rattle.rules.specs.declared.Cell.the-variants.{Owned}
 use Rattle.rules.specs.declared.State.{State}
-use Rattle.rules.specs.declared.Refusal.{Refusal}
 use Rattle.rules.specs.declared.Outcome.{Outcome}
-use Rattle.rules.specs.declared.Outcome.the-variants.{Undone}
 use Rattle.rules.specs.declared.Deck.{Deck}
 use Rattle.rules.specs.declared.Deck.the-variants.{Good, Faulty}
 use Rattle.rules.specs.declared.Bar.{Bar}
 use Rattle.rules.specs.declared.Bar.the-variants.{BadDrum, BadDeck, BadState}
-use Rattle.rules.specs.declared.Ending.{Ending}
 use Rattle.rules.specs.declared.Ending.the-variants.{Ran, NotRun}
-use Rattle.rules.specs.declared.Loading.{Loading}
 use Rattle.rules.specs.declared.Loading.the-variants.{Loaded, NotLoaded}
 use Rattle.rules.proofs.Undone.{step-leaves}
 use Rattle.promises.specs.Undone.{AsBefore, RefusalUndone, SameOrderAgain, RefusedLoadChangesNothing, RefusedRunChangesNothing}

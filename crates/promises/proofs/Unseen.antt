@@ -18,7 +18,7 @@ use Rattle.rules.specs.declared.Deck.{Deck}
 use Rattle.rules.specs.declared.Deck.the-variants.{Good, Faulty}
 use Rattle.rules.specs.declared.State.{State}
 use Rattle.rules.proofs.Views.{length-overlay}
-use Rattle.promises.specs.Calls.{Call, load, run, startOf, Told, Called, called, afterLoad, afterRun, History, history}
+use Rattle.promises.specs.Calls.{Call, load, run, startOf, Told, Called, called, afterLoad, afterRun, history}
 use Rattle.promises.specs.Foreign.{Alike, SameFor, ForeignUnseen}
 
 -- ---- drums that are alike have one view

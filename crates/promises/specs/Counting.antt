@@ -6,7 +6,7 @@ use mathlib.Core.List.{List}
 use mathlib.Core.Bool.{Bool, false}
 use Rattle.rules.specs.Numbers.{completed, mayGoOn}
 use Rattle.rules.specs.Machine.{Machine, Inputs}
-use Rattle.rules.specs.Running.{Course, step, runFrom, RunResult, ran}
+use Rattle.rules.specs.Running.{Course, step, runFrom, ran}
 use Rattle.rules.specs.declared.State.{State}
 use Rattle.rules.specs.declared.Outcome.{Outcome}
 use Rattle.rules.specs.declared.Outcome.the-variants.{GoesOn}

@@ -7,3 +7,4 @@ pub mod Counting
 pub mod Rounding
 pub mod Reckoning
 pub mod Cards
+pub mod Worked

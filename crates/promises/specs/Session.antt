@@ -5,7 +5,7 @@ use Prim.Native.Char.{code}
 use Prim.Native.String.{String, [] as none, _∷_ as cons}
 use mathlib.Core.Path.{_≡_}
 use mathlib.Core.List.{List, [], _∷_}
-use mathlib.Core.Bool.{true, false}
+use mathlib.Core.Bool.{false}
 use lib.ListN.{replicate, getD}
 use Rattle.rules.specs.Running.{RunResult, ran}
 use Rattle.rules.specs.Loads.{LoadResult, loaded}

@@ -6,10 +6,9 @@ use mathlib.Core.List.{List, [], _∷_, map}
 use mathlib.Core.Bool.{false}
 use Rattle.rules.specs.Numbers.{outcomeNumber}
 use Rattle.rules.specs.Drum.{wordAt}
-use Rattle.rules.specs.Machine.{Machine, Inputs, Answer}
+use Rattle.rules.specs.Machine.{Machine, Answer}
 use Rattle.rules.specs.Running.{step}
 use Rattle.rules.specs.declared.Cell.the-variants.{Foreign, Owned}
-use Rattle.rules.specs.declared.State.{State}
 
 -- what one sees after the step: the number (02: the run goes on), where the next order is, the loop box, and the words of cell 000 and
 -- of cell 004

@@ -6,9 +6,9 @@ use mathlib.Core.List.{List}
 use mathlib.Core.Bool.{Bool, true}
 use Rattle.rules.specs.Numbers.{triesAgain}
 use Rattle.rules.specs.Drum.{cellAt}
-use Rattle.rules.specs.Machine.{Machine, Inputs, Answer}
-use Rattle.rules.specs.Running.{asDone, step, Left, RunResult, notRun, ran}
-use Rattle.rules.specs.Loads.{LoadResult, notLoaded, loaded}
+use Rattle.rules.specs.Machine.{Machine, Inputs}
+use Rattle.rules.specs.Running.{asDone, step, Left, notRun, ran}
+use Rattle.rules.specs.Loads.{notLoaded, loaded}
 use Rattle.rules.specs.declared.State.{State}
 use Rattle.rules.specs.declared.Refusal.{Refusal}
 use Rattle.rules.specs.declared.Outcome.the-variants.{Undone}

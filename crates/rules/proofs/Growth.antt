@@ -1,19 +1,19 @@
 -- A mark once set stays: no order, run or load takes one away, since the one change of cells is a store. Assumes nothing.
 use Prim.Native.Nat.{ℕ, zero, suc, _+_, _-_}
-use mathlib.Core.Path.{_≡_, refl, sym, ap, subst, _∙_}
+use mathlib.Core.Path.{_≡_, refl, sym, subst}
 use mathlib.Core.List.{List}
 use mathlib.Core.Bool.{Bool, true, false}
 use lib.Dec.{eqb, leb, ltb}
-use lib.ListN.{length, getD, drop}
-use Rattle.rules.specs.Words.{pick, both, exponentIn, withAddress, digitsIn, aIn, bIn, cIn}
+use lib.ListN.{length, drop}
+use Rattle.rules.specs.Words.{pick, both, aIn, bIn, cIn}
 use Rattle.rules.specs.Numbers.{mayGoOn}
-use Rattle.rules.specs.Drum.{cellAt, wordAt, store, marksOf}
+use Rattle.rules.specs.Drum.{cellAt, wordAt, store}
 use Rattle.rules.specs.Cards.{wordIn, wordPlace}
 use Rattle.rules.specs.Decks.{cardAt, wordsStored, cardsStored, judgedFrom}
 use Rattle.rules.specs.Codes.{codes, lookup, checked}
 use Rattle.rules.specs.Machine.{Machine, Inputs, Answer, counting, clearBox, isTracing, withState, goingTo, onward, done, undone}
 use Rattle.rules.specs.Orders.{reckonedBy, reckoned, condStopped, gone, largest, raised, five, cardPunched, cardsPunched, punchSize, punched, read, erased, retraced, performed}
-use Rattle.rules.specs.Running.{Course, allowed, obeyedAs, codeDone, obeyed, asDone, orderFits, traceSent, traceSize, traced, fetched, step, runFrom}
+use Rattle.rules.specs.Running.{allowed, obeyedAs, codeDone, obeyed, asDone, orderFits, traceSent, traceSize, traced, fetched, step, runFrom}
 use Rattle.rules.specs.declared.Cell.{Cell}
 use Rattle.rules.specs.declared.Cell.the-variants.{Foreign, Owned}
 use Rattle.rules.specs.declared.Card.{Card}

@@ -1,21 +1,21 @@
 -- What arithmetic answers is a word: its digits are fewer than 10^8 where its exponent is in range, since rounding looks for the place at
 -- which they are. Assumes nothing.
-use Prim.Native.Nat.{ℕ, zero, suc, _+_, _-_, _*_, _/_, _%_, _^_, _≤_, _<_}
-use mathlib.Core.Path.{_≡_, refl, sym, ap, subst, _∙_}
+use Prim.Native.Nat.{ℕ, zero, suc, _+_, _-_, _*_, _/_, _^_, _≤_, _<_}
+use mathlib.Core.Path.{_≡_, refl, subst}
 use mathlib.Core.Bool.{Bool, true, false}
 use native.Mathlib.Omega.{arith}
 use lib.Dec.{eqb, leb, ltb}
-use borrow.Author.Tests.{ltb-true, leb-true, ltb-false, leb-false, eqb-true, eqb-false}
-use Rattle.rules.specs.Words.{pick, both, either, isWord, signIn, digitsIn, leadingIn, isNumber}
-use Rattle.rules.specs.Rounding.{Form, single, Value, Settled, nought, value, outside, nearest, place, placeIn, placed, settled, turned, signs, sum, sumOf, differenceOf, productOf, quotientOf, rootOf}
+use borrow.Author.Tests.{ltb-true, leb-true, ltb-false, eqb-true}
+use Rattle.rules.specs.Words.{pick, both, either, isWord, signIn, leadingIn, isNumber}
+use Rattle.rules.specs.Rounding.{single, nought, value, outside, nearest, place, placeIn, placed, settled, turned, signs, sum, sumOf, differenceOf, productOf, quotientOf, rootOf}
 use Rattle.rules.specs.Arithmetic.{valueIn, wordOf, ofNumbers, ofNumber, addOf, subOf, mpyOf, divOf, ngmpyOf, sqrtOf, absOf}
 use Rattle.rules.specs.Orders.{reckonedBy}
 use Rattle.rules.specs.declared.Reckoned.{Reckoned}
 use Rattle.rules.specs.declared.Reckoned.the-variants.{Result, Refused}
-use Rattle.rules.specs.declared.Refusal.the-variants.{NotNumber, ZeroDivisor, NegativeRoot, OutOfRange}
+use Rattle.rules.specs.declared.Refusal.the-variants.{NotNumber, ZeroDivisor, NegativeRoot}
 use Rattle.rules.specs.declared.Reckoning.{Reckoning}
 use Rattle.rules.specs.declared.Reckoning.the-variants.{Add, Sub, Mpy, Div, Ngmpy, Sqrt, Abs}
-use Rattle.rules.proofs.Tests.{both-first, both-second, false-true}
+use Rattle.rules.proofs.Tests.{both-first}
 
 -- ---- the place that is found
 

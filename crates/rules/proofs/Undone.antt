@@ -1,8 +1,8 @@
 -- What a refused order leaves: itself undone, and nothing but its trace card. Every refusal is answered with the machine as the order
 -- found it, and so is the stop 00. Assumes nothing.
 use Prim.Native.Nat.{ℕ, _+_, _-_}
-use mathlib.Core.Path.{_≡_, refl, sym, ap, _∙_}
-use mathlib.Core.Logic.{_⊎_, inl, inr}
+use mathlib.Core.Path.{_≡_, refl}
+use mathlib.Core.Logic.{inl, inr}
 use mathlib.Core.Bool.{Bool, true, false}
 use lib.Dec.{eqb, leb}
 use lib.ListN.{length}
@@ -20,7 +20,7 @@ use Rattle.rules.specs.declared.Reckoned.{Reckoned}
 use Rattle.rules.specs.declared.Reckoned.the-variants.{Result, Refused}
 use Rattle.rules.specs.declared.Judged.{Judged}
 use Rattle.rules.specs.declared.Judged.the-variants.{Fits, Fails}
-use Rattle.rules.specs.declared.Refusal.the-variants.{BadAddress, Unmarked, NoRoom, NotBuilt}
+use Rattle.rules.specs.declared.Refusal.the-variants.{BadAddress, NoRoom}
 use Rattle.rules.specs.declared.Checked.{Checked}
 use Rattle.rules.specs.declared.Checked.the-variants.{Passes, Refuses}
 use Rattle.rules.specs.declared.Built.{Built}

@@ -1,7 +1,6 @@
 -- Arithmetic on words: codes 1 to 5, 0 300 and 0 350. An operand that is no number is refused before anything else; the exact result
 -- is rounded once, and only then is its exponent judged. Assumes nothing.
-use Prim.Native.Nat.{ℕ, _+_, _*_, _%_}
-use mathlib.Core.Bool.{Bool, true, false}
+use Prim.Native.Nat.{ℕ, _+_, _*_}
 use lib.Dec.{eqb}
 use Rattle.rules.specs.Words.{pick, both, signIn, digitsIn, leadingIn, exponentIn, isNumber}
 use Rattle.rules.specs.Rounding.{Value, Settled, nought, value, outside, single, turned, signs, sumOf, differenceOf, productOf, quotientOf, rootOf}

@@ -1,11 +1,10 @@
 -- Cards as bytes: how each kind is written, and how one is read from what is left of a deck. Assumes nothing.
 use Prim.Native.Nat.{ℕ, zero, suc, _+_, _-_, _*_, _/_, _%_, _^_}
 use mathlib.Core.List.{List, [], _∷_, _++_}
-use mathlib.Core.Bool.{Bool, true, false}
+use mathlib.Core.Bool.{Bool, true}
 use lib.Dec.{eqb, leb, ltb}
 use lib.ListN.{length, getD}
 use Rattle.rules.specs.Words.{pick, both}
-use Rattle.rules.specs.declared.Fault.{Fault}
 use Rattle.rules.specs.declared.Fault.the-variants.{UnknownKind, SecondFirst, CutShort, BadByte, BadPlace}
 use Rattle.rules.specs.declared.Card.{Card}
 use Rattle.rules.specs.declared.Card.the-variants.{Data, First, Bad, End}

@@ -1,6 +1,6 @@
 -- The deck check, and the cards of a checked deck: stored, judged for READ, and where a reader may stand. Assumes nothing.
-use Prim.Native.Nat.{ℕ, zero, suc, _+_, _-_}
-use mathlib.Core.List.{List, [], _∷_}
+use Prim.Native.Nat.{ℕ, zero, suc, _+_}
+use mathlib.Core.List.{List}
 use mathlib.Core.Bool.{Bool, true, false}
 use lib.Dec.{eqb, leb, ltb}
 use lib.ListN.{length, drop}
@@ -10,7 +10,6 @@ use Rattle.rules.specs.Drum.{store}
 use Rattle.rules.specs.declared.Cell.{Cell}
 use Rattle.rules.specs.declared.Card.{Card}
 use Rattle.rules.specs.declared.Card.the-variants.{Data, First, Bad, End}
-use Rattle.rules.specs.declared.DeckFault.{DeckFault}
 use Rattle.rules.specs.declared.DeckFault.the-variants.{TooLong, At, NoFirst}
 use Rattle.rules.specs.declared.Deck.{Deck}
 use Rattle.rules.specs.declared.Deck.the-variants.{Good, Faulty}

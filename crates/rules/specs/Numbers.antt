@@ -8,7 +8,6 @@ use Rattle.rules.specs.declared.Reckoned.{Reckoned}
 use Rattle.rules.specs.declared.Reckoned.the-variants.{Result, Refused}
 use Rattle.rules.specs.declared.Outcome.{Outcome}
 use Rattle.rules.specs.declared.Outcome.the-variants.{GoesOn, Stopped, Paused, Undone}
-use Rattle.rules.specs.declared.Fault.{Fault}
 use Rattle.rules.specs.declared.DeckFault.{DeckFault}
 use Rattle.rules.specs.declared.DeckFault.the-variants.{TooLong, At, NoFirst}
 use Rattle.rules.specs.declared.Bar.{Bar}

@@ -7,7 +7,7 @@ use lib.Dec.{eqb, leb, ltb}
 use lib.ListN.{length}
 use Rattle.rules.specs.Words.{pick, both, signIn, digitsIn, exponentIn, addressIn, withAddress}
 use Rattle.rules.specs.Arithmetic.{addOf, subOf, mpyOf, divOf, ngmpyOf, sqrtOf, absOf}
-use Rattle.rules.specs.Drum.{cellAt, wordAt}
+use Rattle.rules.specs.Drum.{wordAt}
 use Rattle.rules.specs.Cards.{dataCard}
 use Rattle.rules.specs.Decks.{cardsStored, judgedFrom}
 use Rattle.rules.specs.Machine.{Machine, Inputs, Answer, counting, countA, countB, countC, clearBox, numbered, readTo, tracingSet, isTraced, withState, stored, sending, goingTo, onward, done, undone, stops}

@@ -2,7 +2,6 @@
 -- quotient and a root. Nothing here depends on eight digits or on two-digit exponents: those are a form, and another form may be put
 -- for it. Assumes nothing.
 use Prim.Native.Nat.{ℕ, zero, suc, _+_, _-_, _*_, _/_, _%_, _^_}
-use mathlib.Core.Bool.{Bool, true, false}
 use lib.Dec.{eqb, leb, ltb}
 use Rattle.rules.specs.Words.{pick}
 

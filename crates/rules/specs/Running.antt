@@ -7,7 +7,7 @@ use mathlib.Core.List.{List, [], _∷_, _++_}
 use mathlib.Core.Bool.{Bool, true, false}
 use lib.Dec.{eqb, leb, ltb}
 use lib.ListN.{length, drop}
-use Rattle.rules.specs.Words.{pick, both, either, signIn, firstDigit, aIn, bIn, cIn, worthOf}
+use Rattle.rules.specs.Words.{pick, both, signIn, firstDigit, aIn, bIn, cIn, worthOf}
 use Rattle.rules.specs.Numbers.{completed, mayGoOn}
 use Rattle.rules.specs.Drum.{view, cellAt, wordAt, isOwned, marksOf, overlay, drumFits}
 use Rattle.rules.specs.Cards.{traceCard}

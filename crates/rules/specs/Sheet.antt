@@ -1,12 +1,11 @@
 -- What the program around the library writes: the cards of a run, and behind them the Z card or, where the call was refused at its
 -- entry, its number and place. Assumes nothing.
 use Prim.Native.Nat.{ℕ}
-use mathlib.Core.List.{List, [], _∷_, _++_}
+use mathlib.Core.List.{List, [], _++_}
 use lib.ListN.{take}
 use Rattle.rules.specs.Numbers.{outcomeNumber, outcomeShown, barNumber, barPlace}
 use Rattle.rules.specs.Cards.{stopCard, refusalLine}
 use Rattle.rules.specs.Running.{RunResult}
-use Rattle.rules.specs.Loads.{LoadResult}
 use Rattle.rules.specs.declared.State.{State}
 use Rattle.rules.specs.declared.Bar.{Bar}
 use Rattle.rules.specs.declared.Ending.{Ending}

@@ -1,6 +1,7 @@
+-- `machine::changing::change` meets its contract: one address of the word is changed, and the word stays a word. Assumes nothing.
 use mathlib.Core.Path.{ap, sym, subst, _∙_}
 use Prim.Native.Nat.{ℕ, _+_, _≤_}
-use Rattle.rules.specs.Words.{withAddress, addressIn}
+use Rattle.rules.specs.Words.{withAddress}
 use Rattle.rules.specs.Orders.{newAddress, changedWord}
 use Rattle.rules.specs.Drum.{wordAt}
 use Rattle.rules.specs.declared.State.{State}
@@ -8,53 +9,35 @@ use Rattle.machine.proofs.Shown.{word-is, stored-went}
 use borrow.Author.Needs.{needs}
 use Rattle.machine.proofs.changing.change.Statement.{statement}
 use Rattle.machine.proofs.changing.change.Tie as tie
-use Rattle.machine.proofs.changing.change.Reads as reads
-use Rattle.machine.proofs.changing.change.Lts as lts
-use Rattle.machine.proofs.changing.address_in.Reads as address-in-reads
-use Rattle.machine.proofs.changing.new_address.Reads as new-address-reads
-use Rattle.machine.proofs.changing.with_address.Reads as with-address-reads
-use Rattle.machine.proofs.memory.keep.Reads as keep-reads
-use Rattle.machine.proofs.memory.word.Reads as word-reads
-use Rattle.machine.proofs.states.went_to.Reads as went-to-reads
 
--- src/changing.rt:66:9
 word-requires : tie.Need-word-requires
 word-requires c κs = search needs
 
--- src/changing.rt:67:28
 address-in-requires : tie.Need-address-in-requires
 address-in-requires c κs = search needs
 
--- src/changing.rt:67:9
 new-address-requires : tie.Need-new-address-requires
 new-address-requires c κs = search needs
 
--- src/changing.rt:68:9
 with-address-requires : tie.Need-with-address-requires
 with-address-requires c κs =
     (subst (λ (w : ℕ). w ≤ 19999999999) (sym (c .before .before .word .ensures)) (c .before .before .before .before .before .before .before .pre .0 .words (c .before .before .before .before .before .before .before .args .b) (c .before .before .before .before .before .before .before .pre .1)), c .new-address .ensures .1)
 
--- src/changing.rt:69:5
 keep-requires : tie.Need-keep-requires
 keep-requires c κs = search needs
 
--- src/changing.rt:70:16
 add-next : tie.Need-add-next
 add-next c = search needs
 
--- src/changing.rt:71:9
 went-to-requires : tie.Need-went-to-requires
 went-to-requires c κs = search needs
 
--- src/changing.rt:52:1
 same-length : tie.Need-same-length
 same-length c = search needs
 
--- src/changing.rt:52:1
 same-length-2 : tie.Need-same-length-2
 same-length-2 c = search needs
 
--- src/changing.rt:52:1
 returns : tie.Need-returns
 returns c =
     λ out drum₀ out₀ m h.

@@ -1,3 +1,5 @@
+-- `machine::checks::all_owned` meets its contract: each turn has seen one more marked cell; one that is not is enough to refuse. Assumes
+-- nothing.
 use borrow.Author.Needs.{needs}
 use borrow.Author.Tests.{not-true, not-false}
 use Prim.Native.Nat.{ℕ, _-_, _≤_}
@@ -11,9 +13,6 @@ use Rattle.machine.specs.Lent.{Holds}
 use Rattle.machine.proofs.ByClass.{owned-none, owned-more, owned-fails}
 use Rattle.machine.proofs.checks.all_owned.Statement.{statement}
 use Rattle.machine.proofs.checks.all_owned.Tie as tie
-use Rattle.machine.proofs.checks.all_owned.Reads as reads
-use Rattle.machine.proofs.checks.all_owned.Lts as lts
-use Rattle.machine.proofs.checks.is_owned.Reads as is-owned-reads
 
 abbrev Inv-loop : tie.InvT-loop
 Inv-loop drum marks b n i₀ i =
@@ -22,43 +21,35 @@ Inv-loop drum marks b n i₀ i =
 abbrev μ-loop : tie.MeasureT-loop
 μ-loop drum marks b n i₀ i = n - i
 
--- src/checks.rt:68:5
 loop-holds : tie.Need-loop-holds Inv-loop μ-loop
 loop-holds c =
     (omega arith, λ drum₀ v h. owned-none v (c .before .before .args .b))
 
--- src/checks.rt:69:35
 add-is-owned : tie.Need-add-is-owned Inv-loop μ-loop
 add-is-owned c =
     search needs
 
--- src/checks.rt:69:13
 is-owned-requires : tie.Need-is-owned-requires Inv-loop μ-loop
 is-owned-requires c κs =
     (c .before .before .before .before .pre .0, omega arith)
 
--- src/checks.rt:70:13
 returns : tie.Need-returns Inv-loop μ-loop
 returns c =
     λ drum₀ v h.
     owned-fails v (c .before .before .before .before .before .before .args .b) (c .before .before .before .loop .i) (c .before .before .before .before .before .before .args .n) (c .before .before .loop-test .taken) (sym (not-true _ (c .if1 .taken)) ∙ c .before .is-owned .ensures drum₀ v h)
 
--- src/checks.rt:72:9
 add-i : tie.Need-add-i Inv-loop μ-loop
 add-i c =
     search needs
 
--- src/checks.rt:68:5
 loop-less : tie.Need-loop-less Inv-loop μ-loop
 loop-less c =
     omega arith
 
--- src/checks.rt:68:5
 loop-again : tie.Need-loop-again Inv-loop μ-loop
 loop-again c =
     (omega arith, λ drum₀ v h. owned-more v (c .before .before .before .before .before .before .args .b) (c .before .before .before .loop .i) (c .before .before .before .loop .inv .1 drum₀ v h) (sym (not-false _ (c .if1 .left)) ∙ c .before .is-owned .ensures drum₀ v h))
 
--- src/checks.rt:63:1
 returns-2 : tie.Need-returns-2 Inv-loop μ-loop
 returns-2 c =
     λ drum₀ v h.

@@ -1,14 +1,11 @@
+-- `machine::checks::block_fits` meets its contract. Assumes nothing.
 use borrow.Author.Tests.{le-leb, lt-leb}
 use Rattle.machine.proofs.checks.block_fits.Statement.{statement}
 use Rattle.machine.proofs.checks.block_fits.Tie as tie
-use Rattle.machine.proofs.checks.block_fits.Reads as reads
-use Rattle.machine.proofs.checks.block_fits.Lts as lts
 
--- src/checks.rt:57:9
 returns : tie.Need-returns
 returns c = simp (lt-leb _ _ (c .if1 .taken))
 
--- src/checks.rt:53:1
 returns-2 : tie.Need-returns-2
 returns-2 c = simp (le-leb _ _ (c .if1 .left))
 

@@ -1,54 +1,44 @@
+-- `machine::checks::check_block` meets its contract. Assumes nothing.
 use mathlib.Core.Path.{_≡_, sym, ap, _∙_}
 use mathlib.Core.Bool.{Bool, true}
-use Prim.Native.Nat.{ℕ, _+_, _-_}
+use Prim.Native.Nat.{_+_, _-_}
 use native.Mathlib.Omega.{arith}
 use borrow.Author.Tests.{leb-true, not-true, not-false}
 use lib.Dec.{leb}
-use Rattle.rules.proofs.Tests.{both-first, both-second}
+use Rattle.rules.proofs.Tests.{both-second}
 use Rattle.rules.specs.Codes.{andThen, unless, blockFits, ownedFrom}
 use Rattle.rules.specs.declared.Refusal.the-variants.{BadAddress, Unmarked}
 use borrow.Author.Needs.{needs}
 use Rattle.machine.proofs.checks.check_block.Statement.{statement}
 use Rattle.machine.proofs.checks.check_block.Tie as tie
-use Rattle.machine.proofs.checks.check_block.Reads as reads
-use Rattle.machine.proofs.checks.check_block.Lts as lts
-use Rattle.machine.proofs.checks.all_owned.Reads as all-owned-reads
-use Rattle.machine.proofs.checks.block_fits.Reads as block-fits-reads
 
--- src/checks.rt:104:9
 block-fits-requires : tie.Need-block-fits-requires
 block-fits-requires c κs = search needs
 
--- src/checks.rt:105:9
 returns : tie.Need-returns
 returns c =
     λ drum₀ v h. ap (λ (t : Bool). andThen (unless t BadAddress) (unless (ownedFrom v (c .before .before .before .before .args .b) (c .before .before .before .before .args .c + 1 - c .before .before .before .before .args .b)) Unmarked)) (sym (not-true _ (c .if1 .taken)) ∙ c .before .block-fits .ensures)
 
--- src/checks.rt:107:34
 add-all-owned : tie.Need-add-all-owned
 add-all-owned c = search needs
 
--- src/checks.rt:107:34
 sub-all-owned : tie.Need-sub-all-owned
 sub-all-owned c =
     let e : blockFits (c .before .before .before .before .args .b) (c .before .before .before .before .args .c) ≡ true = sym (c .before .block-fits .ensures) ∙ not-false _ (c .if1 .left) in
     let l = leb-true (c .before .before .before .before .args .b) (c .before .before .before .before .args .c) (both-second (leb 1 (c .before .before .before .before .args .b)) (leb (c .before .before .before .before .args .b) (c .before .before .before .before .args .c)) e) in
     omega arith
 
--- src/checks.rt:107:8
 all-owned-requires : tie.Need-all-owned-requires
 all-owned-requires c κs =
     let e : blockFits (c .before .before .before .before .args .b) (c .before .before .before .before .args .c) ≡ true = sym (c .before .block-fits .ensures) ∙ not-false _ (c .if1 .left) in
     let l = leb-true (c .before .before .before .before .args .b) (c .before .before .before .before .args .c) (both-second (leb 1 (c .before .before .before .before .args .b)) (leb (c .before .before .before .before .args .b) (c .before .before .before .before .args .c)) e) in
     (c .before .before .before .before .pre .0, omega arith)
 
--- src/checks.rt:108:9
 returns-2 : tie.Need-returns-2
 returns-2 c =
     λ drum₀ v h.
     (λ i. andThen (unless ((sym (not-false _ (c .before .before .if1 .left)) ∙ c .before .before .before .block-fits .ensures) i) BadAddress) (unless ((sym (c .if2 .taken) ∙ c .before .all-owned .ensures drum₀ v h) i) Unmarked))
 
--- src/checks.rt:99:1
 returns-3 : tie.Need-returns-3
 returns-3 c =
     λ drum₀ v h.

@@ -1,43 +1,31 @@
+-- `machine::checks::check_numbers` meets its contract. Assumes nothing.
 use mathlib.Core.Path.{_∙_}
 use Rattle.rules.specs.Codes.{andThen}
 use borrow.Author.Needs.{needs}
 use Rattle.machine.proofs.checks.check_numbers.Statement.{statement}
 use Rattle.machine.proofs.checks.check_numbers.Tie as tie
-use Rattle.machine.proofs.checks.check_numbers.Reads as reads
-use Rattle.machine.proofs.checks.check_numbers.Lts as lts
-use Rattle.machine.proofs.checks.and_then.Reads as and-then-reads
-use Rattle.machine.proofs.checks.check_number.Reads as check-number-reads
-use Rattle.machine.proofs.checks.check_word.Reads as check-word-reads
 
--- src/checks.rt:94:18
 check-word-requires : tie.Need-check-word-requires
 check-word-requires c κs = search needs
 
--- src/checks.rt:94:46
 check-word-requires-2 : tie.Need-check-word-requires-2
 check-word-requires-2 c κs = search needs
 
--- src/checks.rt:94:9
 and-then-requires : tie.Need-and-then-requires
 and-then-requires c κs = search needs
 
--- src/checks.rt:95:18
 check-number-requires : tie.Need-check-number-requires
 check-number-requires c κs = search needs
 
--- src/checks.rt:95:48
 check-number-requires-2 : tie.Need-check-number-requires-2
 check-number-requires-2 c κs = search needs
 
--- src/checks.rt:95:9
 and-then-requires-2 : tie.Need-and-then-requires-2
 and-then-requires-2 c κs = search needs
 
--- src/checks.rt:93:5
 and-then-requires-3 : tie.Need-and-then-requires-3
 and-then-requires-3 c κs = search needs
 
--- src/checks.rt:87:1
 returns : tie.Need-returns
 returns c =
     λ drum₀ v h.

@@ -1,3 +1,4 @@
+-- `machine::checks::check_word` meets its contract. Assumes nothing.
 use mathlib.Core.Path.{sym, ap, _∙_}
 use mathlib.Core.Bool.{Bool}
 use Rattle.rules.specs.Codes.{unless}
@@ -5,20 +6,14 @@ use Rattle.rules.specs.declared.Refusal.the-variants.{Unmarked}
 use borrow.Author.Needs.{needs}
 use Rattle.machine.proofs.checks.check_word.Statement.{statement}
 use Rattle.machine.proofs.checks.check_word.Tie as tie
-use Rattle.machine.proofs.checks.check_word.Reads as reads
-use Rattle.machine.proofs.checks.check_word.Lts as lts
-use Rattle.machine.proofs.checks.is_owned.Reads as is-owned-reads
 
--- src/checks.rt:33:8
 is-owned-requires : tie.Need-is-owned-requires
 is-owned-requires c κs = search needs
 
--- src/checks.rt:34:9
 returns : tie.Need-returns
 returns c =
     λ drum₀ v h. ap (λ (t : Bool). unless t Unmarked) (sym (c .if1 .taken) ∙ c .before .is-owned .ensures drum₀ v h)
 
--- src/checks.rt:28:1
 returns-2 : tie.Need-returns-2
 returns-2 c =
     λ drum₀ v h. ap (λ (t : Bool). unless t Unmarked) (sym (c .if1 .left) ∙ c .before .is-owned .ensures drum₀ v h)

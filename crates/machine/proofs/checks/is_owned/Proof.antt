@@ -1,21 +1,16 @@
-use mathlib.Core.Path.{_≡_}
+-- `machine::checks::is_owned` meets its contract. Assumes nothing.
 use Rattle.machine.proofs.ByClass.{not-owned, is-owned}
 use borrow.Author.Needs.{needs}
 use Rattle.machine.proofs.checks.is_owned.Statement.{statement}
 use Rattle.machine.proofs.checks.is_owned.Tie as tie
-use Rattle.machine.proofs.checks.is_owned.Reads as reads
-use Rattle.machine.proofs.checks.is_owned.Lts as lts
 
--- src/checks.rt:21:8
 shared-slice-read-if1 : tie.Need-shared-slice-read-if1
 shared-slice-read-if1 c = search needs
 
--- src/checks.rt:22:9
 returns : tie.Need-returns
 returns c =
     λ drum₀ v h. not-owned h (c .before .before .args .a) (c .before .before .pre .1) (c .if1 .taken)
 
--- src/checks.rt:17:1
 returns-2 : tie.Need-returns-2
 returns-2 c =
     λ drum₀ v h. is-owned h (c .before .before .args .a) (c .before .before .pre .1) (c .if1 .left)

@@ -1,6 +1,8 @@
+-- `machine::codes::class_at` meets its contract: every entry of the table is the class of its row, by one test over the whole table.
+-- Assumes nothing.
 use borrow.Author.Tests.{ne-eqb}
 use Rattle.rules.specs.declared.Class.the-variants.{BlockIn}
-use Prim.Native.Nat.{ℕ, _≤_, _<_}
+use Prim.Native.Nat.{ℕ, _≤_}
 use mathlib.Core.Path.{_≡_, refl, sym, ap, _∙_}
 use mathlib.Core.List.{List, [], _∷_}
 use native.Mathlib.Omega.{arith}
@@ -12,8 +14,6 @@ use Rattle.machine.proofs.Rows.{classOf, class-again}
 use borrow.Author.Needs.{needs}
 use Rattle.machine.proofs.codes.class_at.Statement.{statement}
 use Rattle.machine.proofs.codes.class_at.Tie as tie
-use Rattle.machine.proofs.codes.class_at.Reads as reads
-use Rattle.machine.proofs.codes.class_at.Lts as lts
 
 -- the table of the source
 abbrev classes : List ℕ
@@ -24,39 +24,30 @@ unfolding codes
 class-is row n l e =
     ap classOf (sym e ∙ entry (λ (j : ℕ). classNumber (classAt j codes)) classes refl row (omega arith)) ∙ class-again (classAt row codes)
 
--- src/codes.rt:1086:13
 array-read-k : tie.Need-array-read-k
 array-read-k c = search needs
 
--- src/codes.rt:1082:1
 returns : tie.Need-returns
 returns c = class-is (c .before .args .row) 0 (c .before .pre) (c .match .keys1)
 
--- src/codes.rt:1082:1
 returns-2 : tie.Need-returns-2
 returns-2 c = class-is (c .before .args .row) 1 (c .before .pre) (c .match .keys2)
 
--- src/codes.rt:1082:1
 returns-3 : tie.Need-returns-3
 returns-3 c = class-is (c .before .args .row) 2 (c .before .pre) (c .match .keys3)
 
--- src/codes.rt:1082:1
 returns-4 : tie.Need-returns-4
 returns-4 c = class-is (c .before .args .row) 3 (c .before .pre) (c .match .keys4)
 
--- src/codes.rt:1082:1
 returns-5 : tie.Need-returns-5
 returns-5 c = class-is (c .before .args .row) 4 (c .before .pre) (c .match .keys5)
 
--- src/codes.rt:1082:1
 returns-6 : tie.Need-returns-6
 returns-6 c = class-is (c .before .args .row) 5 (c .before .pre) (c .match .keys6)
 
--- src/codes.rt:1082:1
 returns-7 : tie.Need-returns-7
 returns-7 c = class-is (c .before .args .row) 6 (c .before .pre) (c .match .keys7)
 
--- src/codes.rt:1082:1
 returns-8 : tie.Need-returns-8
 returns-8 c =
     let k : ℕ = getD classes (c .before .args .row) 0 in

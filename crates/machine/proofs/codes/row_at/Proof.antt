@@ -1,5 +1,7 @@
-use Prim.Native.Nat.{ℕ, _≤_, _<_}
-use mathlib.Core.Path.{_≡_, refl, sym, subst}
+-- `machine::codes::row_at` meets its contract: every entry of the table is the row of its code, by one test over the whole table.
+-- Assumes nothing.
+use Prim.Native.Nat.{ℕ, _<_}
+use mathlib.Core.Path.{_≡_, refl}
 use mathlib.Core.List.{List, [], _∷_}
 use native.Mathlib.Omega.{arith}
 use lib.ListN.{getD}
@@ -10,8 +12,6 @@ use Rattle.machine.proofs.Rows.{row-small}
 use borrow.Author.Needs.{needs}
 use Rattle.machine.proofs.codes.row_at.Statement.{statement}
 use Rattle.machine.proofs.codes.row_at.Tie as tie
-use Rattle.machine.proofs.codes.row_at.Reads as reads
-use Rattle.machine.proofs.codes.row_at.Lts as lts
 
 -- the table of the source
 abbrev rows : List ℕ
@@ -21,15 +21,12 @@ row-is : (slot : ℕ) → slot < 1011 → getD rows slot 0 ≡ rowIn (codeOf slo
 unfolding rowIn codes
 row-is slot l = entry (λ (j : ℕ). rowIn (codeOf j) codes) rows refl slot l
 
--- src/codes.rt:1079:5
 array-read-result : tie.Need-array-read-result
 array-read-result c = search needs
 
--- src/codes.rt:1079:5
 cast-result : tie.Need-cast-result
 cast-result c = omega (arith, row-is (c .args .slot) (c .pre), row-small (codeOf (c .args .slot)))
 
--- src/codes.rt:1075:1
 returns : tie.Need-returns
 returns c = (row-is (c .args .slot) (c .pre), omega (arith, row-is (c .args .slot) (c .pre), row-small (codeOf (c .args .slot))))
 

@@ -1,31 +1,25 @@
+-- `machine::codes::slot_of` meets its contract. Assumes nothing.
 use Prim.Native.Nat.{ℕ}
 use mathlib.Core.Logic.{⊎-elim, inl, inr}
 use Rattle.machine.proofs.Rows.{slot-long}
-use mathlib.Core.Path.{refl}
 use native.Mathlib.Omega.{arith}
-use borrow.Author.Tests.{eq-eqb, ne-eqb, lt-ltb, le-ltb}
+use borrow.Author.Tests.{eq-eqb, ne-eqb, lt-ltb}
 use Rattle.machine.specs.Rows.{slotOf}
 use borrow.Author.Needs.{needs}
 use Rattle.machine.proofs.codes.slot_of.Statement.{statement}
 use Rattle.machine.proofs.codes.slot_of.Tie as tie
-use Rattle.machine.proofs.codes.slot_of.Reads as reads
-use Rattle.machine.proofs.codes.slot_of.Lts as lts
 
--- src/codes.rt:1150:9
 returns : tie.Need-returns
 unfolding slotOf
 returns c = (simp (eq-eqb _ _ (c .if1 .taken)), omega arith)
 
--- src/codes.rt:1154:13
 returns-2 : tie.Need-returns-2
 unfolding slotOf
 returns-2 c = (simp (ne-eqb _ _ (c .before .before .if1 .left), eq-eqb _ _ (c .before .if2 .taken), lt-ltb _ _ (c .if3 .taken)), omega arith)
 
--- src/codes.rt:1157:5
 add-result : tie.Need-add-result
 add-result c = search needs
 
--- src/codes.rt:1144:1
 returns-3 : tie.Need-returns-3
 unfolding slotOf
 returns-3 c =

@@ -1,36 +1,27 @@
+-- `machine::entering::box_fits` meets its contract. Assumes nothing.
 use mathlib.Core.Path.{ap, _∙_}
-use mathlib.Core.Bool.{Bool}
 use lib.Dec.{leb}
 use lib.ListN.{getD}
 use Rattle.rules.specs.Words.{both}
 use borrow.Author.Needs.{needs}
 use Rattle.machine.proofs.entering.box_fits.Statement.{statement}
 use Rattle.machine.proofs.entering.box_fits.Tie as tie
-use Rattle.machine.proofs.entering.box_fits.Reads as reads
-use Rattle.machine.proofs.entering.box_fits.Lts as lts
-use Rattle.machine.proofs.entering.and.Reads as and-reads
 
--- src/entering.rt:26:9
 array-read-and : tie.Need-array-read-and
 array-read-and c = search needs
 
--- src/entering.rt:26:31
 array-read-and-2 : tie.Need-array-read-and-2
 array-read-and-2 c = search needs
 
--- src/entering.rt:26:49
 array-read-and-3 : tie.Need-array-read-and-3
 array-read-and-3 c = search needs
 
--- src/entering.rt:26:27
 and-requires : tie.Need-and-requires
 and-requires c κs = search needs
 
--- src/entering.rt:26:5
 and-requires-2 : tie.Need-and-requires-2
 and-requires-2 c κs = search needs
 
--- src/entering.rt:22:1
 returns : tie.Need-returns
 returns c =
     c .and2 .ensures ∙ ap (both (leb (getD (c .before .before .before .args .state .counts) 0 0) 999)) (c .before .and .ensures)

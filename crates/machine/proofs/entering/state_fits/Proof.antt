@@ -1,63 +1,45 @@
+-- `machine::entering::state_fits` meets its contract: the tests are those of the rules, one after another. Assumes nothing.
 use mathlib.Core.Path.{ap, _∙_}
-use mathlib.Core.Bool.{Bool}
 use lib.Dec.{leb}
 use Rattle.rules.specs.Words.{both}
 use Rattle.rules.specs.Running.{stateFits}
 use borrow.Author.Needs.{needs}
 use Rattle.machine.proofs.entering.state_fits.Statement.{statement}
 use Rattle.machine.proofs.entering.state_fits.Tie as tie
-use Rattle.machine.proofs.entering.state_fits.Reads as reads
-use Rattle.machine.proofs.entering.state_fits.Lts as lts
-use Rattle.machine.proofs.checks.is_owned.Reads as is-owned-reads
-use Rattle.machine.proofs.entering.and.Reads as and-reads
-use Rattle.machine.proofs.entering.box_fits.Reads as box-fits-reads
-use Rattle.machine.proofs.reading.starts_at.Reads as starts-at-reads
 
--- src/entering.rt:35:9
 starts-at-requires : tie.Need-starts-at-requires
 starts-at-requires c κs = search needs
 
--- src/entering.rt:36:9
 is-owned-requires : tie.Need-is-owned-requires
 is-owned-requires c κs = search needs
 
--- src/entering.rt:37:9
 box-fits-requires : tie.Need-box-fits-requires
 box-fits-requires c κs = search needs
 
--- src/entering.rt:50:62
 and-requires : tie.Need-and-requires
 and-requires c κs = search needs
 
--- src/entering.rt:50:29
 and-requires-2 : tie.Need-and-requires-2
 and-requires-2 c κs = search needs
 
--- src/entering.rt:48:25
 and-requires-3 : tie.Need-and-requires-3
 and-requires-3 c κs = search needs
 
--- src/entering.rt:46:21
 and-requires-4 : tie.Need-and-requires-4
 and-requires-4 c κs = search needs
 
--- src/entering.rt:44:17
 and-requires-5 : tie.Need-and-requires-5
 and-requires-5 c κs = search needs
 
--- src/entering.rt:42:13
 and-requires-6 : tie.Need-and-requires-6
 and-requires-6 c κs = search needs
 
--- src/entering.rt:40:9
 and-requires-7 : tie.Need-and-requires-7
 and-requires-7 c κs = search needs
 
--- src/entering.rt:38:5
 and-requires-8 : tie.Need-and-requires-8
 and-requires-8 c κs = search needs
 
--- src/entering.rt:30:1
 returns : tie.Need-returns
 unfolding stateFits
 returns c =

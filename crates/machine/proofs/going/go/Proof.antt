@@ -1,5 +1,6 @@
+-- `machine::going::go` meets its contract: each stop or transfer goes where the rules go. Assumes nothing.
 use Rattle.rules.specs.Machine.{wentTo}
-use mathlib.Core.Path.{ap, sym, _∙_}
+use mathlib.Core.Path.{ap, _∙_}
 use Prim.Native.Nat.{ℕ, _+_}
 use lib.Dec.{leb}
 use native.Mathlib.Omega.{arith}
@@ -12,107 +13,76 @@ use Rattle.machine.proofs.Shown.{word-is, went}
 use borrow.Author.Needs.{needs}
 use Rattle.machine.proofs.going.go.Statement.{statement}
 use Rattle.machine.proofs.going.go.Tie as tie
-use Rattle.machine.proofs.going.go.Reads as reads
-use Rattle.machine.proofs.going.go.Lts as lts
-use Rattle.machine.proofs.going.exponent_target.Reads as exponent-target-reads
-use Rattle.machine.proofs.going.link.Reads as link-reads
-use Rattle.machine.proofs.going.sign_target.Reads as sign-target-reads
-use Rattle.machine.proofs.memory.word.Reads as word-reads
-use Rattle.machine.proofs.states.went_to.Reads as went-to-reads
 
--- src/going.rt:79:41
 enum-told : tie.Need-enum-told
 enum-told c = search needs
 
--- src/going.rt:79:17
 word-requires : tie.Need-word-requires
 word-requires c κs = search needs
 
--- src/going.rt:87:41
 enum-told-2 : tie.Need-enum-told-2
 enum-told-2 c = search needs
 
--- src/going.rt:87:17
 word-requires-2 : tie.Need-word-requires-2
 word-requires-2 c κs = search needs
 
--- src/going.rt:88:17
 went-to-requires : tie.Need-went-to-requires
 went-to-requires c κs = search needs
 
--- src/going.rt:104:41
 enum-told-3 : tie.Need-enum-told-3
 enum-told-3 c = search needs
 
--- src/going.rt:104:17
 word-requires-3 : tie.Need-word-requires-3
 word-requires-3 c κs = search needs
 
--- src/going.rt:105:17
 sign-target-requires : tie.Need-sign-target-requires
 sign-target-requires c κs = search needs
 
--- src/going.rt:106:17
 went-to-requires-2 : tie.Need-went-to-requires-2
 went-to-requires-2 c κs = search needs
 
--- src/going.rt:114:41
 enum-told-4 : tie.Need-enum-told-4
 enum-told-4 c = search needs
 
--- src/going.rt:114:17
 word-requires-4 : tie.Need-word-requires-4
 word-requires-4 c κs = search needs
 
--- src/going.rt:115:24
 add-next : tie.Need-add-next
 add-next c = search needs
 
--- src/going.rt:116:17
 exponent-target-requires : tie.Need-exponent-target-requires
 exponent-target-requires c κs = search needs
 
--- src/going.rt:117:17
 went-to-requires-3 : tie.Need-went-to-requires-3
 went-to-requires-3 c κs = search needs
 
--- src/going.rt:125:17
 enum-told-5 : tie.Need-enum-told-5
 enum-told-5 c = search needs
 
--- src/going.rt:125:17
 went-to-requires-4 : tie.Need-went-to-requires-4
 went-to-requires-4 c κs = search needs
 
--- src/going.rt:132:31
 enum-told-6 : tie.Need-enum-told-6
 enum-told-6 c = search needs
 
--- src/going.rt:132:26
 link-requires : tie.Need-link-requires
 link-requires c κs = search needs
 
--- src/going.rt:134:24
 enum-told-7 : tie.Need-enum-told-7
 enum-told-7 c = search needs
 
--- src/going.rt:134:24
 add-next-2 : tie.Need-add-next-2
 add-next-2 c = search needs
 
--- src/going.rt:135:17
 went-to-requires-5 : tie.Need-went-to-requires-5
 went-to-requires-5 c κs = search needs
 
--- src/going.rt:62:1
 same-length : tie.Need-same-length
 same-length c = search needs
 
--- src/going.rt:62:1
 same-length-2 : tie.Need-same-length-2
 same-length-2 c = search needs
 
--- src/going.rt:62:1
 returns : tie.Need-returns
 unfolding gone
 returns c =
@@ -120,15 +90,12 @@ returns c =
     rw (c .before .before .before .enum-told .given .1)
     (record { outcome-is = ap Stopped (word-is (h .memory) (c .before .before .before .before .before .before .before .args .b) (c .word .result) (c .before .before .before .before .before .before .before .pre .1) (c .word .ensures)); shows = h })
 
--- src/going.rt:62:1
 same-length-3 : tie.Need-same-length-3
 same-length-3 c = search needs
 
--- src/going.rt:62:1
 same-length-4 : tie.Need-same-length-4
 same-length-4 c = search needs
 
--- src/going.rt:62:1
 returns-2 : tie.Need-returns-2
 unfolding gone
 returns-2 c =
@@ -137,15 +104,12 @@ returns-2 c =
     rw (c .before .before .before .before .before .enum-told2 .given .1, c .if1 .taken)
     (record { outcome-is = ap Paused (word-is (h .memory) (c .before .before .before .before .before .before .before .before .before .args .b) (c .before .before .word2 .result) (c .before .before .before .before .before .before .before .before .before .pre .1) (c .before .before .word2 .ensures)); shows = q .shows })
 
--- src/going.rt:62:1
 same-length-5 : tie.Need-same-length-5
 same-length-5 c = search needs
 
--- src/going.rt:62:1
 same-length-6 : tie.Need-same-length-6
 same-length-6 c = search needs
 
--- src/going.rt:62:1
 returns-3 : tie.Need-returns-3
 unfolding gone
 returns-3 c =
@@ -153,15 +117,12 @@ returns-3 c =
     rw (c .before .before .before .before .before .enum-told2 .given .1, c .if1 .left)
     (went h GoesOn (λ (s : State). c .before .before .before .before .before .before .before .before .before .args .c) (c .before .went-to .result) (c .before .went-to .ensures))
 
--- src/going.rt:62:1
 same-length-7 : tie.Need-same-length-7
 same-length-7 c = search needs
 
--- src/going.rt:62:1
 same-length-8 : tie.Need-same-length-8
 same-length-8 c = search needs
 
--- src/going.rt:62:1
 returns-4 : tie.Need-returns-4
 unfolding gone
 returns-4 c =
@@ -172,15 +133,12 @@ returns-4 c =
     (c .went-to2 .ensures
     ∙ ap (wentTo (a .state)) (c .before .sign-target .ensures ∙ ap (λ (w : ℕ). pick (isNegative w) (a .c) (a .b)) (word-is (h .memory) 0 (c .before .before .word3 .result) (omega arith) (c .before .before .word3 .ensures)))))
 
--- src/going.rt:62:1
 same-length-9 : tie.Need-same-length-9
 same-length-9 c = search needs
 
--- src/going.rt:62:1
 same-length-10 : tie.Need-same-length-10
 same-length-10 c = search needs
 
--- src/going.rt:62:1
 returns-5 : tie.Need-returns-5
 unfolding gone
 returns-5 c =
@@ -191,7 +149,6 @@ returns-5 c =
     (c .went-to3 .ensures
     ∙ ap (wentTo (a .state)) (c .before .exponent-target .ensures ∙ ap (λ (w : ℕ). pick (leb (a .b) (exponentIn w)) (a .c) (a .state .location + 1)) (word-is (h .memory) 0 (c .before .before .before .word4 .result) (omega arith) (c .before .before .before .word4 .ensures)))))
 
--- src/going.rt:62:1
 returns-6 : tie.Need-returns-6
 unfolding gone
 returns-6 c =
@@ -199,22 +156,18 @@ returns-6 c =
     rw (c .before .enum-told5 .given .1)
     (went h GoesOn (λ (s : State). c .before .before .before .before .before .args .c) (c .went-to4 .result) (c .went-to4 .ensures))
 
--- src/going.rt:62:1
 same-length-11 : tie.Need-same-length-11
 same-length-11 c = search needs
 
--- src/going.rt:62:1
 same-length-12 : tie.Need-same-length-12
 same-length-12 c = search needs
 
--- src/going.rt:62:1
 returns-7 : tie.Need-returns-7
 unfolding gone
 returns-7 c =
     λ deck out drum₀ out₀ m h.
     rw (c .before .before .before .before .before .before .before .enum-told6 .given .1) (c .before .before .before .before .link .ensures out drum₀ out₀ m h)
 
--- src/going.rt:62:1
 returns-8 : tie.Need-returns-8
 unfolding gone
 returns-8 c =

@@ -1,3 +1,4 @@
+-- `machine::going::link` meets its contract. Assumes nothing.
 use mathlib.Core.Path.{ap, _∙_}
 use Prim.Native.Nat.{ℕ}
 use Rattle.rules.specs.Words.{withAddress, digitsIn}
@@ -8,38 +9,25 @@ use Rattle.machine.proofs.Shown.{word-is, stored-went}
 use borrow.Author.Needs.{needs}
 use Rattle.machine.proofs.going.link.Statement.{statement}
 use Rattle.machine.proofs.going.link.Tie as tie
-use Rattle.machine.proofs.going.link.Reads as reads
-use Rattle.machine.proofs.going.link.Lts as lts
-use Rattle.machine.proofs.going.linked_word.Reads as linked-word-reads
-use Rattle.machine.proofs.memory.keep.Reads as keep-reads
-use Rattle.machine.proofs.memory.word.Reads as word-reads
-use Rattle.machine.proofs.states.went_to.Reads as went-to-reads
 
--- src/going.rt:50:9
 word-requires : tie.Need-word-requires
 word-requires c κs = search needs
 
--- src/going.rt:51:9
 linked-word-requires : tie.Need-linked-word-requires
 linked-word-requires c κs = search needs
 
--- src/going.rt:52:5
 keep-requires : tie.Need-keep-requires
 keep-requires c κs = search needs
 
--- src/going.rt:53:9
 went-to-requires : tie.Need-went-to-requires
 went-to-requires c κs = search needs
 
--- src/going.rt:45:1
 same-length : tie.Need-same-length
 same-length c = search needs
 
--- src/going.rt:45:1
 same-length-2 : tie.Need-same-length-2
 same-length-2 c = search needs
 
--- src/going.rt:45:1
 returns : tie.Need-returns
 returns c =
     λ out drum₀ out₀ m h.

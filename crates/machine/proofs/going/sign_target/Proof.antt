@@ -1,18 +1,14 @@
+-- `machine::going::sign_target` meets its contract. Assumes nothing.
 use borrow.Author.Tests.{eq-eqb, ne-eqb, lt-ltb, le-ltb}
 use Rattle.machine.proofs.going.sign_target.Statement.{statement}
 use Rattle.machine.proofs.going.sign_target.Tie as tie
-use Rattle.machine.proofs.going.sign_target.Reads as reads
-use Rattle.machine.proofs.going.sign_target.Lts as lts
 
--- src/going.rt:22:13
 returns : tie.Need-returns
 returns c = simp (eq-eqb _ _ (c .before .if1 .taken), lt-ltb _ _ (c .if2 .taken))
 
--- src/going.rt:17:1
 returns-2 : tie.Need-returns-2
 returns-2 c = simp (eq-eqb _ _ (c .before .if1 .taken), le-ltb _ _ (c .if2 .left))
 
--- src/going.rt:17:1
 returns-3 : tie.Need-returns-3
 returns-3 c = simp (ne-eqb _ _ (c .if1 .left))
 

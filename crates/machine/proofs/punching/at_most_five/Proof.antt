@@ -1,14 +1,11 @@
+-- `machine::punching::at_most_five` meets its contract. Assumes nothing.
 use borrow.Author.Tests.{lt-ltb, le-ltb}
 use Rattle.machine.proofs.punching.at_most_five.Statement.{statement}
 use Rattle.machine.proofs.punching.at_most_five.Tie as tie
-use Rattle.machine.proofs.punching.at_most_five.Reads as reads
-use Rattle.machine.proofs.punching.at_most_five.Lts as lts
 
--- src/punching.rt:37:9
 returns : tie.Need-returns
 returns c = simp (lt-ltb _ _ (c .if1 .taken))
 
--- src/punching.rt:33:1
 returns-2 : tie.Need-returns-2
 returns-2 c = simp (le-ltb _ _ (c .if1 .left))
 

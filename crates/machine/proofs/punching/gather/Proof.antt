@@ -1,5 +1,6 @@
+-- `machine::punching::gather` meets its contract: each turn adds the next word. Assumes nothing.
 use Prim.Native.Nat.{ℕ, _+_, _-_, _≤_}
-use mathlib.Core.Path.{_≡_, refl, sym, ap, subst, _∙_}
+use mathlib.Core.Path.{_≡_, refl, subst, _∙_}
 use mathlib.Core.List.{List, [], _∷_}
 use native.Mathlib.Omega.{arith}
 use lib.ListN.{length, take, length-set}
@@ -11,9 +12,6 @@ use Rattle.machine.proofs.Shown.{word-is}
 use Rattle.machine.proofs.Gathered.{none-gathered, one-gathered}
 use Rattle.machine.proofs.punching.gather.Statement.{statement}
 use Rattle.machine.proofs.punching.gather.Tie as tie
-use Rattle.machine.proofs.punching.gather.Reads as reads
-use Rattle.machine.proofs.punching.gather.Lts as lts
-use Rattle.machine.proofs.memory.word.Reads as word-reads
 
 abbrev Inv-loop : tie.InvT-loop
 Inv-loop drum marks b n words₀ i₀ words i =
@@ -22,42 +20,34 @@ Inv-loop drum marks b n words₀ i₀ words i =
 abbrev μ-loop : tie.MeasureT-loop
 μ-loop drum marks b n words₀ i₀ words i = n - i
 
--- src/punching.rt:24:5
 loop-holds : tie.Need-loop-holds Inv-loop μ-loop
 loop-holds c =
     (omega arith, refl, λ drum₀ v h. none-gathered v (c .before .before .args .b) (0 ∷ 0 ∷ 0 ∷ 0 ∷ 0 ∷ []))
 
--- src/punching.rt:25:50
 add-word : tie.Need-add-word Inv-loop μ-loop
 add-word c =
     search needs
 
--- src/punching.rt:25:13
 word-requires : tie.Need-word-requires Inv-loop μ-loop
 word-requires c κs =
     search needs
 
--- src/punching.rt:26:9
 mul-words : tie.Need-mul-words Inv-loop μ-loop
 mul-words c =
     omega arith
 
--- src/punching.rt:26:9
 array-write-words : tie.Need-array-write-words Inv-loop μ-loop
 array-write-words c =
     omega (arith, c .before .before .loop .inv .1)
 
--- src/punching.rt:27:9
 add-i : tie.Need-add-i Inv-loop μ-loop
 add-i c =
     search needs
 
--- src/punching.rt:24:5
 loop-less : tie.Need-loop-less Inv-loop μ-loop
 loop-less c =
     omega arith
 
--- src/punching.rt:24:5
 loop-again : tie.Need-loop-again Inv-loop μ-loop
 loop-again c = (
   omega arith,
@@ -67,7 +57,6 @@ loop-again c = (
       (word-is h (c .before .before .before .before .before .args .b + c .before .before .loop .i) (c .word .result) (omega arith) (c .word .ensures)),
 )
 
--- src/punching.rt:18:1
 returns : tie.Need-returns Inv-loop μ-loop
 returns c =
     λ drum₀ v h.

@@ -1,57 +1,44 @@
-use Prim.Native.Nat.{ℕ, _+_, _-_}
+-- `machine::punching::punch` meets its contract: the room is tested as the rules test it. Assumes nothing.
+use Prim.Native.Nat.{_+_, _-_}
 use native.Mathlib.Omega.{arith}
 use Rattle.machine.proofs.Punches.{punch-full, punch-done}
 use borrow.Author.Needs.{needs}
 use Rattle.machine.proofs.punching.punch.Statement.{statement}
 use Rattle.machine.proofs.punching.punch.Tie as tie
-use Rattle.machine.proofs.punching.punch.Reads as reads
-use Rattle.machine.proofs.punching.punch.Lts as lts
-use Rattle.machine.proofs.punching.punch_cards.Reads as punch-cards-reads
 
--- src/punching.rt:114:13
 add-n : tie.Need-add-n
 add-n c = search needs
 
--- src/punching.rt:114:13
 sub-n : tie.Need-sub-n
 sub-n c = search needs
 
--- src/punching.rt:115:16
 mul-size : tie.Need-mul-size
 mul-size c = search needs
 
--- src/punching.rt:115:32
 add-size : tie.Need-add-size
 add-size c = search needs
 
--- src/punching.rt:115:25
 mul-size-2 : tie.Need-mul-size-2
 mul-size-2 c = search needs
 
--- src/punching.rt:115:16
 add-size-2 : tie.Need-add-size-2
 add-size-2 c = search needs
 
--- src/punching.rt:116:8
 sub-if1 : tie.Need-sub-if1
 sub-if1 c = search needs
 
--- src/punching.rt:117:9
 returns : tie.Need-returns
 returns c =
     λ deck stop drum₀ out₀ m h.
     let a = c .before .before .before .before .args in
     punch-full h deck stop (a .b) (a .c + 1 - a .b) (c .if1 .taken) (c .before .before .before .before .pre .1 .3)
 
--- src/punching.rt:123:5
 punch-cards-requires : tie.Need-punch-cards-requires
 punch-cards-requires c κs = search needs
 
--- src/punching.rt:99:1
 same-length : tie.Need-same-length
 same-length c = search needs
 
--- src/punching.rt:99:1
 returns-2 : tie.Need-returns-2
 returns-2 c =
     λ deck stop drum₀ out₀ m h.

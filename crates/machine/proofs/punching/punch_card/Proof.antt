@@ -1,42 +1,31 @@
+-- `machine::punching::punch_card` meets its contract: the words gathered are those of the cells, and the writer is given fields in
+-- range. Assumes nothing.
 use Rattle.machine.proofs.Punches.{card-sent}
 use borrow.Author.Needs.{needs}
 use Rattle.machine.proofs.punching.punch_card.Statement.{statement}
 use Rattle.machine.proofs.punching.punch_card.Tie as tie
-use Rattle.machine.proofs.punching.punch_card.Reads as reads
-use Rattle.machine.proofs.punching.punch_card.Lts as lts
-use Rattle.card.proofs.write_data.Reads as write-data-reads
-use Rattle.machine.proofs.punching.gather.Reads as gather-reads
-use Rattle.machine.proofs.states.numbered_next.Reads as numbered-next-reads
 
--- src/punching.rt:56:9
 numbered-next-requires : tie.Need-numbered-next-requires
 numbered-next-requires c κs = search needs
 
--- src/punching.rt:57:9
 gather-requires : tie.Need-gather-requires
 gather-requires c κs = search needs
 
--- src/punching.rt:58:22
 sub-write-data : tie.Need-sub-write-data
 sub-write-data c = search needs
 
--- src/punching.rt:58:22
 part-write-data-start : tie.Need-part-write-data-start
 part-write-data-start c = search needs
 
--- src/punching.rt:58:22
 part-write-data-end : tie.Need-part-write-data-end
 part-write-data-end c = search needs
 
--- src/punching.rt:58:5
 write-data-requires : tie.Need-write-data-requires
 write-data-requires c κs = search needs
 
--- src/punching.rt:42:1
 same-length : tie.Need-same-length
 same-length c = search needs
 
--- src/punching.rt:42:1
 returns : tie.Need-returns
 returns c = (
   c .before .before .before .before .before .numbered-next .ensures,

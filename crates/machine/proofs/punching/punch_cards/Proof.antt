@@ -1,15 +1,11 @@
-use Prim.Native.Nat.{ℕ, _+_, _-_, _*_, _≤_, _<_}
-use mathlib.Core.Path.{_≡_, refl, sym, ap, _∙_}
+-- `machine::punching::punch_cards` meets its contract: each turn sends one card, and what is left to punch is the whole from the start.
+-- Assumes nothing.
+use mathlib.Core.Path.{refl}
 use native.Mathlib.Omega.{arith}
 use borrow.Author.Needs.{needs}
-use Rattle.machine.proofs.Punches.{Punching, Five, five-of, punching-more, punching-end}
+use Rattle.machine.proofs.Punches.{Punching, five-of, punching-more, punching-end}
 use Rattle.machine.proofs.punching.punch_cards.Statement.{statement}
 use Rattle.machine.proofs.punching.punch_cards.Tie as tie
-use Rattle.machine.proofs.punching.punch_cards.Reads as reads
-use Rattle.machine.proofs.punching.punch_cards.Lts as lts
-use Rattle.machine.proofs.punching.at_most_five.Reads as at-most-five-reads
-use Rattle.machine.proofs.punching.punch_card.Reads as punch-card-reads
-use Rattle.machine.proofs.states.went_to.Reads as went-to-reads
 
 abbrev Inv-loop : tie.InvT-loop
 Inv-loop drum marks out₀ place b n at₀ st₀ next₀ left₀ out at st next left =
@@ -18,7 +14,6 @@ Inv-loop drum marks out₀ place b n at₀ st₀ next₀ left₀ out at st next 
 abbrev μ-loop : tie.MeasureT-loop
 μ-loop drum marks out₀ place b n at₀ st₀ next₀ left₀ out at st next left = left
 
--- src/punching.rt:82:5
 loop-holds : tie.Need-loop-holds Inv-loop μ-loop
 loop-holds c =
     record {
@@ -33,75 +28,62 @@ loop-holds c =
       sends = λ drum₀ out₀ m h. (m, h, refl);
     }
 
--- src/punching.rt:83:13
 at-most-five-requires : tie.Need-at-most-five-requires Inv-loop μ-loop
 at-most-five-requires c κs =
     search needs
 
--- src/punching.rt:84:9
 punch-card-requires : tie.Need-punch-card-requires Inv-loop μ-loop
 punch-card-requires c κs =
     let w = five-of (c .before .before .before .loop .left) (c .before .at-most-five .result) (c .before .before .loop-test .taken) (c .before .at-most-five .ensures) in
     ((c .before .before .before .before .before .before .before .pre .0 .0, c .before .before .before .loop .inv .steady), (c .before .before .before .loop .inv .low, omega (arith, w .upto, c .before .before .before .loop .inv .inside), w .some, w .few, omega (arith, w .size, c .before .before .before .loop .inv .room)))
 
--- src/punching.rt:85:25
 mul-at : tie.Need-mul-at Inv-loop μ-loop
 mul-at c =
     let w = five-of (c .before .before .before .before .before .before .loop .left) (c .before .before .before .before .at-most-five .result) (c .before .before .before .before .before .loop-test .taken) (c .before .before .before .before .at-most-five .ensures) in
     omega (arith, w .few)
 
--- src/punching.rt:85:20
 add-at : tie.Need-add-at Inv-loop μ-loop
 add-at c =
     let w = five-of (c .before .before .before .before .before .before .loop .left) (c .before .before .before .before .at-most-five .result) (c .before .before .before .before .before .loop-test .taken) (c .before .before .before .before .at-most-five .ensures) in
     omega (arith, w .few)
 
--- src/punching.rt:85:14
 add-at-2 : tie.Need-add-at-2 Inv-loop μ-loop
 add-at-2 c =
     let w = five-of (c .before .before .before .before .before .before .loop .left) (c .before .before .before .before .at-most-five .result) (c .before .before .before .before .before .loop-test .taken) (c .before .before .before .before .at-most-five .ensures) in
     omega (arith, w .size, c .before .before .before .before .before .before .loop .inv .room, c .before .before .before .before .before .before .loop .inv .long, c .before .before .before .before .before .before .before .before .before .before .good)
 
--- src/punching.rt:86:16
 add-next : tie.Need-add-next Inv-loop μ-loop
 add-next c =
     let w = five-of (c .before .before .before .before .before .before .loop .left) (c .before .before .before .before .at-most-five .result) (c .before .before .before .before .before .loop-test .taken) (c .before .before .before .before .at-most-five .ensures) in
     omega (arith, w .upto, c .before .before .before .before .before .before .loop .inv .inside)
 
--- src/punching.rt:87:16
 sub-left : tie.Need-sub-left Inv-loop μ-loop
 sub-left c =
     let w = five-of (c .before .before .before .before .before .before .loop .left) (c .before .before .before .before .at-most-five .result) (c .before .before .before .before .before .loop-test .taken) (c .before .before .before .before .at-most-five .ensures) in
     w .upto
 
--- src/punching.rt:82:5
 loop-less : tie.Need-loop-less Inv-loop μ-loop
 loop-less c =
     let w = five-of (c .before .before .before .before .before .before .loop .left) (c .before .before .before .before .at-most-five .result) (c .before .before .before .before .before .loop-test .taken) (c .before .before .before .before .at-most-five .ensures) in
     omega (arith, w .some, c .before .before .before .before .before .loop-test .taken)
 
--- src/punching.rt:82:5
 loop-again : tie.Need-loop-again Inv-loop μ-loop
 loop-again c =
     punching-more (c .before .before .before .before .before .before .loop .inv) (c .before .before .before .before .at-most-five .result) (c .before .before .punch-card .result) (c .before .before .punch-card .last .1 .1 .0)
     (c .before .before .before .before .before .loop-test .taken) (c .before .before .before .before .at-most-five .ensures) (c .before .before .punch-card .ensures .0) (c .before .before .punch-card .kept .1 .1 .0) (c .before .before .punch-card .ensures .1)
 
--- src/punching.rt:89:18
 add-beyond : tie.Need-add-beyond Inv-loop μ-loop
 add-beyond c =
     omega (arith, c .before .before .loop .inv .place, c .before .before .before .before .before .before .pre .1 .3)
 
--- src/punching.rt:90:9
 went-to-requires : tie.Need-went-to-requires Inv-loop μ-loop
 went-to-requires c κs =
     search needs
 
--- src/punching.rt:64:1
 same-length : tie.Need-same-length Inv-loop μ-loop
 same-length c =
     c .before .before .before .loop .inv .long
 
--- src/punching.rt:64:1
 returns : tie.Need-returns Inv-loop μ-loop
 returns c =
     (refl, punching-end (c .before .before .before .loop .inv) (omega (arith, c .before .before .loop-test .left)) (c .went-to .result) (c .went-to .ensures))

@@ -1,6 +1,6 @@
+-- `machine::reckoning::move_word` meets its contract. Assumes nothing.
 use mathlib.Core.Path.{sym, subst}
 use Prim.Native.Nat.{ℕ, _≤_}
-use Rattle.rules.specs.Drum.{wordAt}
 use Rattle.rules.specs.Machine.{done, onward}
 use Rattle.rules.specs.Orders.{resultAt}
 use Rattle.machine.specs.Lent.{Did}
@@ -8,29 +8,20 @@ use Rattle.machine.proofs.Shown.{word-is}
 use borrow.Author.Needs.{needs}
 use Rattle.machine.proofs.reckoning.move_word.Statement.{statement}
 use Rattle.machine.proofs.reckoning.move_word.Tie as tie
-use Rattle.machine.proofs.reckoning.move_word.Reads as reads
-use Rattle.machine.proofs.reckoning.move_word.Lts as lts
-use Rattle.machine.proofs.memory.word.Reads as word-reads
-use Rattle.machine.proofs.reckoning.store_result.Reads as store-result-reads
 
--- src/reckoning.rt:93:9
 word-requires : tie.Need-word-requires
 word-requires c κs = search needs
 
--- src/reckoning.rt:94:5
 store-result-requires : tie.Need-store-result-requires
 store-result-requires c κs =
     (c .before .before .before .before .before .before .before .pre .0, c .before .before .before .before .before .before .before .pre .2, c .before .before .before .before .before .before .before .pre .3, subst (λ (w : ℕ). w ≤ 19999999999) (sym (c .before .before .word .ensures)) (c .before .before .before .before .before .before .before .pre .0 .words (c .before .before .before .before .before .before .before .args .b) (c .before .before .before .before .before .before .before .pre .1)))
 
--- src/reckoning.rt:81:1
 same-length : tie.Need-same-length
 same-length c = search needs
 
--- src/reckoning.rt:81:1
 same-length-2 : tie.Need-same-length-2
 same-length-2 c = search needs
 
--- src/reckoning.rt:81:1
 returns : tie.Need-returns
 returns c =
     λ out drum₀ out₀ m h.

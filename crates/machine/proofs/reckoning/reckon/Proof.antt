@@ -1,100 +1,68 @@
-use mathlib.Core.Path.{sym, ap, _∙_}
-use Rattle.rules.specs.Orders.{reckonedBy}
-use Rattle.rules.specs.declared.Reckoning.{Reckoning}
+-- `machine::reckoning::reckon` meets its contract. Assumes nothing.
 use borrow.Author.Needs.{needs}
 use Rattle.machine.proofs.reckoning.reckon.Statement.{statement}
 use Rattle.machine.proofs.reckoning.reckon.Tie as tie
-use Rattle.machine.proofs.reckoning.reckon.Reads as reads
-use Rattle.machine.proofs.reckoning.reckon.Lts as lts
-use Rattle.number.proofs.abs.Reads as abs-reads
-use Rattle.number.proofs.add.Reads as add-reads
-use Rattle.number.proofs.div.Reads as div-reads
-use Rattle.number.proofs.mpy.Reads as mpy-reads
-use Rattle.number.proofs.ngmpy.Reads as ngmpy-reads
-use Rattle.number.proofs.sqrt.Reads as sqrt-reads
-use Rattle.number.proofs.sub.Reads as sub-reads
 
--- src/reckoning.rt:19:27
 enum-told : tie.Need-enum-told
 enum-told c = search needs
 
--- src/reckoning.rt:19:27
 add-requires : tie.Need-add-requires
 add-requires c κs = search needs
 
--- src/reckoning.rt:20:27
 enum-told-2 : tie.Need-enum-told-2
 enum-told-2 c = search needs
 
--- src/reckoning.rt:20:27
 sub-requires : tie.Need-sub-requires
 sub-requires c κs = search needs
 
--- src/reckoning.rt:21:27
 enum-told-3 : tie.Need-enum-told-3
 enum-told-3 c = search needs
 
--- src/reckoning.rt:21:27
 mpy-requires : tie.Need-mpy-requires
 mpy-requires c κs = search needs
 
--- src/reckoning.rt:22:27
 enum-told-4 : tie.Need-enum-told-4
 enum-told-4 c = search needs
 
--- src/reckoning.rt:22:27
 div-requires : tie.Need-div-requires
 div-requires c κs = search needs
 
--- src/reckoning.rt:23:29
 enum-told-5 : tie.Need-enum-told-5
 enum-told-5 c = search needs
 
--- src/reckoning.rt:23:29
 ngmpy-requires : tie.Need-ngmpy-requires
 ngmpy-requires c κs = search needs
 
--- src/reckoning.rt:24:28
 enum-told-6 : tie.Need-enum-told-6
 enum-told-6 c = search needs
 
--- src/reckoning.rt:24:28
 sqrt-requires : tie.Need-sqrt-requires
 sqrt-requires c κs = search needs
 
--- src/reckoning.rt:25:27
 enum-told-7 : tie.Need-enum-told-7
 enum-told-7 c = search needs
 
--- src/reckoning.rt:25:27
 abs-requires : tie.Need-abs-requires
 abs-requires c κs = search needs
 
--- src/reckoning.rt:15:1
 returns : tie.Need-returns
 returns c = rw (c .before .enum-told .given .1) (c .add .ensures)
 
--- src/reckoning.rt:15:1
 returns-2 : tie.Need-returns-2
 returns-2 c = rw (c .before .enum-told2 .given .1) (c .sub .ensures)
 
--- src/reckoning.rt:15:1
 returns-3 : tie.Need-returns-3
 returns-3 c = rw (c .before .enum-told3 .given .1) (c .mpy .ensures)
 
--- src/reckoning.rt:15:1
 returns-4 : tie.Need-returns-4
 returns-4 c = rw (c .before .enum-told4 .given .1) (c .div .ensures)
 
--- src/reckoning.rt:15:1
 returns-5 : tie.Need-returns-5
 returns-5 c = rw (c .before .enum-told5 .given .1) (c .ngmpy .ensures)
 
--- src/reckoning.rt:15:1
 returns-6 : tie.Need-returns-6
 returns-6 c = rw (c .before .enum-told6 .given .1) (c .sqrt .ensures)
 
--- src/reckoning.rt:15:1
 returns-7 : tie.Need-returns-7
 returns-7 c = rw (c .before .enum-told7 .given .1) (c .abs .ensures)
 

@@ -1,8 +1,8 @@
+-- `machine::reckoning::reckon_at` meets its contract: the words are those of the cells, and arithmetic answers for any words. Assumes
+-- nothing.
 use Rattle.rules.specs.declared.Reckoned.the-variants.{Result}
-use mathlib.Core.Path.{_≡_, sym, ap, subst, _∙_}
-use Prim.Native.Nat.{ℕ, _≤_}
+use mathlib.Core.Path.{_≡_, sym, subst, _∙_}
 use Rattle.rules.specs.Drum.{wordAt}
-use Rattle.rules.specs.Machine.{Machine}
 use Rattle.rules.specs.Orders.{reckonedBy, reckoned}
 use Rattle.rules.specs.declared.Reckoned.{Reckoned}
 use Rattle.rules.proofs.Results.{Fits, reckoned-fits}
@@ -12,29 +12,19 @@ use Rattle.machine.proofs.Stores.{fits-word, refused-stays}
 use borrow.Author.Needs.{needs}
 use Rattle.machine.proofs.reckoning.reckon_at.Statement.{statement}
 use Rattle.machine.proofs.reckoning.reckon_at.Tie as tie
-use Rattle.machine.proofs.reckoning.reckon_at.Reads as reads
-use Rattle.machine.proofs.reckoning.reckon_at.Lts as lts
-use Rattle.machine.proofs.memory.word.Reads as word-reads
-use Rattle.machine.proofs.reckoning.reckon.Reads as reckon-reads
-use Rattle.machine.proofs.reckoning.store_result.Reads as store-result-reads
 
--- src/reckoning.rt:67:9
 word-requires : tie.Need-word-requires
 word-requires c κs = search needs
 
--- src/reckoning.rt:68:9
 word-requires-2 : tie.Need-word-requires-2
 word-requires-2 c κs = search needs
 
--- src/reckoning.rt:69:9
 reckon-requires : tie.Need-reckon-requires
 reckon-requires c κs = search needs
 
--- src/reckoning.rt:71:26
 enum-known-q : tie.Need-enum-known-q
 enum-known-q c = search needs
 
--- src/reckoning.rt:71:32
 store-result-requires : tie.Need-store-result-requires
 store-result-requires c κs =
     let a = c .before .before .before .before .before .before .before .before .before .before .before .before .before .before .args in (
@@ -44,19 +34,15 @@ store-result-requires c κs =
       fits-word (c .before .before .before .before .before .reckon .result) (c .before .before .before .q .given .0 .0) (c .before .before .before .q .given .1) (subst Fits (sym (c .before .before .before .before .before .reckon .ensures)) (reckoned-fits (a .k) (c .before .before .before .before .before .before .before .before .before .word .result) (c .before .before .before .before .before .before .word2 .result))),
     )
 
--- src/reckoning.rt:72:27
 enum-known-q-2 : tie.Need-enum-known-q-2
 enum-known-q-2 c = search needs
 
--- src/reckoning.rt:53:1
 same-length : tie.Need-same-length
 same-length c = search needs
 
--- src/reckoning.rt:53:1
 same-length-2 : tie.Need-same-length-2
 same-length-2 c = search needs
 
--- src/reckoning.rt:53:1
 returns : tie.Need-returns
 returns c =
     λ out drum₀ out₀ m h.
@@ -68,15 +54,12 @@ returns c =
     subst (λ (z : Reckoned). Did drum₀ out₀ (c .before .before .before .before .store-result .last .0) (c .before .before .before .before .store-result .last .1 .0) out (c .before .before .before .before .store-result .result) (reckoned m (a .c) z)) q
     (c .before .before .before .before .store-result .ensures out drum₀ out₀ m h)
 
--- src/reckoning.rt:53:1
 same-length-3 : tie.Need-same-length-3
 same-length-3 c = search needs
 
--- src/reckoning.rt:53:1
 same-length-4 : tie.Need-same-length-4
 same-length-4 c = search needs
 
--- src/reckoning.rt:53:1
 returns-2 : tie.Need-returns-2
 returns-2 c =
     λ out drum₀ out₀ m h.

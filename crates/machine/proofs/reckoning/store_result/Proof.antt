@@ -1,37 +1,27 @@
+-- `machine::reckoning::store_result` meets its contract: one store at C and one at 000. Assumes nothing.
 use Rattle.machine.proofs.Stores.{result-went}
 use borrow.Author.Needs.{needs}
 use Rattle.machine.proofs.reckoning.store_result.Statement.{statement}
 use Rattle.machine.proofs.reckoning.store_result.Tie as tie
-use Rattle.machine.proofs.reckoning.store_result.Reads as reads
-use Rattle.machine.proofs.reckoning.store_result.Lts as lts
-use Rattle.machine.proofs.memory.keep.Reads as keep-reads
-use Rattle.machine.proofs.states.went_to.Reads as went-to-reads
 
--- src/reckoning.rt:42:5
 keep-requires : tie.Need-keep-requires
 keep-requires c κs = search needs
 
--- src/reckoning.rt:43:5
 keep-requires-2 : tie.Need-keep-requires-2
 keep-requires-2 c κs = search needs
 
--- src/reckoning.rt:44:16
 add-next : tie.Need-add-next
 add-next c = search needs
 
--- src/reckoning.rt:45:9
 went-to-requires : tie.Need-went-to-requires
 went-to-requires c κs = search needs
 
--- src/reckoning.rt:30:1
 same-length : tie.Need-same-length
 same-length c = search needs
 
--- src/reckoning.rt:30:1
 same-length-2 : tie.Need-same-length-2
 same-length-2 c = search needs
 
--- src/reckoning.rt:30:1
 returns : tie.Need-returns
 returns c =
     λ out drum₀ out₀ m h.

@@ -1,26 +1,20 @@
+-- `machine::running::as_done` meets its contract. Assumes nothing.
 use mathlib.Core.Path.{ap}
 use Prim.Native.Nat.{ℕ, _+_}
 use borrow.Author.Tests.{eq-eqb, ne-eqb}
 use borrow.Author.Needs.{needs}
 use Rattle.machine.proofs.running.as_done.Statement.{statement}
 use Rattle.machine.proofs.running.as_done.Tie as tie
-use Rattle.machine.proofs.running.as_done.Reads as reads
-use Rattle.machine.proofs.running.as_done.Lts as lts
-use Rattle.machine.proofs.running.box_word.Reads as box-word-reads
 
--- src/running.rt:55:20
 box-word-requires : tie.Need-box-word-requires
 box-word-requires c κs = search needs
 
--- src/running.rt:55:16
 add-result : tie.Need-add-result
 add-result c = search needs
 
--- src/running.rt:55:9
 returns : tie.Need-returns
 returns c = simp (eq-eqb _ _ (c .before .if1 .taken)) (ap (λ (n : ℕ). c .before .before .args .w + n) (c .box-word .ensures .0))
 
--- src/running.rt:50:1
 returns-2 : tie.Need-returns-2
 returns-2 c = simp (ne-eqb _ _ (c .if1 .left))
 

@@ -1,5 +1,6 @@
-use mathlib.Core.Path.{_≡_, sym, ap, subst, _∙_}
-use Prim.Native.Nat.{ℕ, _≤_}
+-- `machine::running::obey` meets its contract: the table and the checks of the class are those of the rules, and the operation is done
+-- by its family. Assumes nothing.
+use mathlib.Core.Path.{sym, _∙_}
 use native.Mathlib.Omega.{arith}
 use Rattle.rules.specs.Words.{aIn, bIn, cIn}
 use Rattle.rules.specs.Running.{codeDone}
@@ -7,43 +8,30 @@ use Rattle.machine.proofs.Orders.{passed, obey-not-built, obey-refused,
 use borrow.Author.Needs.{needs}
 use Rattle.machine.proofs.running.obey.Statement.{statement}
 use Rattle.machine.proofs.running.obey.Tie as tie
-use Rattle.machine.proofs.running.obey.Reads as reads
-use Rattle.machine.proofs.running.obey.Lts as lts
-use Rattle.machine.proofs.checks.check.Reads as check-reads
-use Rattle.machine.proofs.codes.look_up.Reads as look-up-reads
-use Rattle.machine.proofs.running.perform.Reads as perform-reads
 
--- src/running.rt:152:27
 look-up-requires : tie.Need-look-up-requires
 look-up-requires c κs = search needs
 
--- src/running.rt:152:19
 enum-known-o : tie.Need-enum-known-o
 enum-known-o c = search needs
 
--- src/running.rt:154:38
 enum-told : tie.Need-enum-told
 enum-told c = search needs
 
--- src/running.rt:153:9
 returns : tie.Need-returns
 returns c =
     λ drum₀ out₀ m h.
     obey-not-built h (c .before .before .before .before .before .before .before .args .deck .now) (c .before .before .before .before .before .before .before .args .stop) (c .before .before .before .before .before .before .before .args .w) (sym (c .enum-told .given .1) ∙ c .before .before .look-up .ensures)
 
--- src/running.rt:159:9
 check-requires : tie.Need-check-requires
 check-requires c κs = search needs
 
--- src/running.rt:161:26
 enum-known-found : tie.Need-enum-known-found
 enum-known-found c = search needs
 
--- src/running.rt:166:36
 enum-told-2 : tie.Need-enum-told-2
 enum-told-2 c = search needs
 
--- src/running.rt:166:28
 perform-requires : tie.Need-perform-requires
 perform-requires c κs =
     let a = c .before .before .before .before .before .before .before .before .before .before .before .before .before .before .before .before .args in
@@ -59,15 +47,12 @@ perform-requires c κs =
       ),
     )
 
--- src/running.rt:134:1
 same-length : tie.Need-same-length
 same-length c = search needs
 
--- src/running.rt:134:1
 same-length-2 : tie.Need-same-length-2
 same-length-2 c = search needs
 
--- src/running.rt:134:1
 returns-2 : tie.Need-returns-2
 returns-2 c =
     λ drum₀ out₀ m h.
@@ -76,19 +61,15 @@ returns-2 c =
     (sym (c .before .before .before .before .before .before .before .o .given .1) ∙ c .before .before .before .before .before .before .before .before .before .look-up .ensures)
     (sym (c .before .before .before .check .ensures drum₀ (m .cells) (h .memory)) ∙ c .before .found .given .1)
 
--- src/running.rt:134:1
 same-length-3 : tie.Need-same-length-3
 same-length-3 c = search needs
 
--- src/running.rt:134:1
 same-length-4 : tie.Need-same-length-4
 same-length-4 c = search needs
 
--- src/running.rt:134:1
 same-length-5 : tie.Need-same-length-5
 same-length-5 c = search needs
 
--- src/running.rt:134:1
 returns-3 : tie.Need-returns-3
 returns-3 c =
     λ drum₀ out₀ m h.

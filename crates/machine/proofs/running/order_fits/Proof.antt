@@ -1,48 +1,37 @@
+-- `machine::running::order_fits` meets its contract. Assumes nothing.
 use Rattle.machine.proofs.Orders.{sums-last}
 use borrow.Author.Tests.{eq-eqb, ne-eqb, le-leb, lt-leb}
 use borrow.Author.Needs.{needs}
 use Rattle.machine.proofs.running.order_fits.Statement.{statement}
 use Rattle.machine.proofs.running.order_fits.Tie as tie
-use Rattle.machine.proofs.running.order_fits.Reads as reads
-use Rattle.machine.proofs.running.order_fits.Lts as lts
 
--- src/running.rt:38:58
 array-read-if2 : tie.Need-array-read-if2
 array-read-if2 c = search needs
 
--- src/running.rt:38:18
 add-if2 : tie.Need-add-if2
 add-if2 c = search needs
 
--- src/running.rt:39:13
 returns : tie.Need-returns
 returns c = simp (eq-eqb _ _ (c .before .before .if1 .taken), lt-leb _ _ (c .if2 .taken))
 
--- src/running.rt:41:53
 array-read-if3 : tie.Need-array-read-if3
 array-read-if3 c = search needs
 
--- src/running.rt:41:18
 add-if3 : tie.Need-add-if3
 add-if3 c = search needs
 
--- src/running.rt:42:13
 returns-2 : tie.Need-returns-2
 returns-2 c = simp (eq-eqb _ _ (c .before .before .before .if1 .taken), le-leb _ _ (c .before .if2 .left), lt-leb _ _ (c .if3 .taken))
 
--- src/running.rt:44:48
 array-read-result : tie.Need-array-read-result
 array-read-result c = search needs
 
--- src/running.rt:44:16
 add-result : tie.Need-add-result
 add-result c = search needs
 
--- src/running.rt:44:9
 returns-3 : tie.Need-returns-3
 returns-3 c = sums-last (c .before .before .before .before .args .state) (c .before .before .before .before .args .w) (c .before .before .before .if1 .taken) (c .before .if2 .left) (c .if3 .left)
 
--- src/running.rt:32:1
 returns-4 : tie.Need-returns-4
 returns-4 c = simp (ne-eqb _ _ (c .if1 .left))
 

@@ -1,59 +1,45 @@
+-- `machine::running::run` meets its contract: the three entry checks lead each to its refusal, and what passes them is run from the
+-- machine that drum and marks show. Assumes nothing.
 use mathlib.Core.Path.{_≡_, sym, _∙_}
-use mathlib.Core.Bool.{true, false}
+use mathlib.Core.Bool.{true}
 use borrow.Author.Tests.{not-true, not-false}
 use lib.ListN.{length}
 use Rattle.rules.specs.Drum.{view, drumFits}
-use Rattle.rules.specs.Running.{stateFits}
 use Rattle.machine.proofs.Shown.{ready}
 use Rattle.machine.proofs.Begins.{begins}
 use Rattle.machine.proofs.Runs.{run-bad-drum, run-bad-deck, run-bad-state, run-begins, run-right}
 use borrow.Author.Needs.{needs}
 use Rattle.machine.proofs.running.run.Statement.{statement}
 use Rattle.machine.proofs.running.run.Tie as tie
-use Rattle.machine.proofs.running.run.Reads as reads
-use Rattle.machine.proofs.running.run.Lts as lts
-use Rattle.card.proofs.check_deck.Reads as check-deck-reads
-use Rattle.machine.proofs.checking.is_fit.Reads as is-fit-reads
-use Rattle.machine.proofs.entering.state_fits.Reads as state-fits-reads
-use Rattle.machine.proofs.running.run_on.Reads as run-on-reads
 
--- src/running.rt:315:9
 is-fit-requires : tie.Need-is-fit-requires
 is-fit-requires c κs = search needs
 
--- src/running.rt:316:9
 same-length : tie.Need-same-length
 same-length c = search needs
 
--- src/running.rt:316:9
 same-length-2 : tie.Need-same-length-2
 same-length-2 c = search needs
 
--- src/running.rt:316:9
 returns : tie.Need-returns
 returns c =
     let a = c .before .before .before .before .before .before .before .before .args in
     run-bad-drum (a .drum .now) (a .marks .now) (a .deck .now) (a .out .now) (a .state) (a .budget) (a .stop) (sym (c .before .is-fit .ensures) ∙ not-true _ (c .if1 .taken))
 
--- src/running.rt:323:9
 check-deck-requires : tie.Need-check-deck-requires
 check-deck-requires c κs = search needs
 
--- src/running.rt:325:22
 enum-known-d : tie.Need-enum-known-d
 enum-known-d c = search needs
 
--- src/running.rt:331:20
 enum-known-d-2 : tie.Need-enum-known-d-2
 enum-known-d-2 c = search needs
 
--- src/running.rt:332:16
 state-fits-requires : tie.Need-state-fits-requires
 state-fits-requires c κs =
     let a = c .before .before .before .before .before .before .before .before .before .before .before .before .before .before .args in
     ready (begins (a .drum .now) (a .marks .now) (sym (c .before .before .before .before .before .before .before .is-fit .ensures) ∙ not-false _ (c .before .before .before .before .before .before .if1 .left)))
 
--- src/running.rt:333:17
 run-on-requires : tie.Need-run-on-requires
 run-on-requires c κs =
     let a = c .before .before .before .before .before .before .before .before .before .before .before .before .before .before .before .before .before .before .before .args in
@@ -61,19 +47,15 @@ run-on-requires c κs =
     run-begins (a .drum .now) (a .marks .now) (a .deck .now) (a .out .now) (a .state) (a .budget) (a .stop) fit (c .before .before .before .before .before .before .before .before .d2 .given .0 .0) (sym (c .before .before .before .before .before .before .before .before .d2 .given .1) ∙ c .before .before .before .before .before .before .before .before .before .before .check-deck .ensures)
     (sym (c .before .before .before .before .state-fits .ensures (a .drum .now) (view (a .drum .now) (a .marks .now)) (begins (a .drum .now) (a .marks .now) fit)) ∙ c .before .before .before .if2 .taken)
 
--- src/running.rt:333:17
 same-length-3 : tie.Need-same-length-3
 same-length-3 c = search needs
 
--- src/running.rt:333:17
 same-length-4 : tie.Need-same-length-4
 same-length-4 c = search needs
 
--- src/running.rt:333:17
 same-length-5 : tie.Need-same-length-5
 same-length-5 c = search needs
 
--- src/running.rt:333:17
 returns-2 : tie.Need-returns-2
 returns-2 c =
     let a = c .before .before .before .before .before .before .before .before .before .before .before .before .before .before .before .before .before .before .before .before .before .before .before .before .before .before .args in
@@ -82,30 +64,24 @@ returns-2 c =
     (sym (c .before .before .before .before .before .before .before .before .before .before .before .state-fits .ensures (a .drum .now) (view (a .drum .now) (a .marks .now)) (begins (a .drum .now) (a .marks .now) fit)) ∙ c .before .before .before .before .before .before .before .before .before .before .if2 .taken)
     (c .before .before .before .before .before .before .run-on .last .0) (c .before .before .before .before .before .before .run-on .last .1 .0) (c .before .before .before .before .before .before .run-on .last .1 .1 .0) (c .before .before .before .before .before .before .run-on .result) (c .before .before .before .before .before .before .run-on .ensures)
 
--- src/running.rt:303:1
 same-length-6 : tie.Need-same-length-6
 same-length-6 c = search needs
 
--- src/running.rt:303:1
 same-length-7 : tie.Need-same-length-7
 same-length-7 c = search needs
 
--- src/running.rt:303:1
 returns-3 : tie.Need-returns-3
 returns-3 c =
     let a = c .before .before .before .before .before .before .before .before .before .before .before .before .args in
     let fit : drumFits (length (a .drum .now)) (a .marks .now) (view (a .drum .now) (a .marks .now)) ≡ true = sym (c .before .before .before .before .before .is-fit .ensures) ∙ not-false _ (c .before .before .before .before .if1 .left) in
     run-bad-deck (a .drum .now) (a .marks .now) (a .deck .now) (a .out .now) (a .state) (a .budget) (a .stop) fit (c .before .d .given .0 .0) (sym (c .before .d .given .1) ∙ c .before .before .before .check-deck .ensures)
 
--- src/running.rt:303:1
 same-length-8 : tie.Need-same-length-8
 same-length-8 c = search needs
 
--- src/running.rt:303:1
 same-length-9 : tie.Need-same-length-9
 same-length-9 c = search needs
 
--- src/running.rt:303:1
 returns-4 : tie.Need-returns-4
 returns-4 c =
     let a = c .before .before .before .before .before .before .before .before .before .before .before .before .before .before .before .before .args in

@@ -1,26 +1,22 @@
+-- `machine::running::run_on` meets its contract: each turn is one step of the rules, and what is left of the budget from the machine now
+-- shown is the whole from the one at the start. Assumes nothing.
 use mathlib.Core.Path.{_≡_, refl, sym, ap, subst, _∙_}
 use Prim.Native.Nat.{ℕ, _+_, _-_, _≤_}
 use native.Mathlib.Nat.{sub-zero}
 use native.Mathlib.Omega.{arith}
 use borrow.Author.Needs.{needs}
-use lib.ListN.{length}
 use Rattle.rules.specs.Numbers.{mayGoOn, completed}
 use Rattle.rules.specs.Machine.{Machine}
-use Rattle.rules.specs.Running.{Course, step, runFrom, begun, inputs}
+use Rattle.rules.specs.Running.{step, runFrom, begun, inputs}
 use Rattle.rules.specs.declared.State.{State}
 use Rattle.rules.specs.declared.Outcome.the-variants.{GoesOn}
 use Rattle.rules.specs.declared.Ending.the-variants.{Ran as RanTo}
-use Rattle.machine.specs.Lent.{Steady, Shows, Did, Ended}
+use Rattle.machine.specs.Lent.{Steady, Shows}
 use Rattle.machine.proofs.Shown.{ready, drum-long, marks-long}
 use Rattle.machine.proofs.Sent.{out-long, at-within}
 use Rattle.machine.proofs.Runs.{run-more, run-end, run-out}
 use Rattle.machine.proofs.running.run_on.Statement.{statement}
 use Rattle.machine.proofs.running.run_on.Tie as tie
-use Rattle.machine.proofs.running.run_on.Reads as reads
-use Rattle.machine.proofs.running.run_on.Lts as lts
-use Rattle.machine.proofs.running.completed_by.Reads as completed-by-reads
-use Rattle.machine.proofs.running.may_go_on.Reads as may-go-on-reads
-use Rattle.machine.proofs.running.step.Reads as step-reads
 
 abbrev Inv-loop : tie.InvT-loop
 Inv-loop drum₀ marks₀ out₀ budget stop deck count₀ at₀ st₀ drum marks out count at st =
@@ -30,7 +26,6 @@ Inv-loop drum₀ marks₀ out₀ budget stop deck count₀ at₀ st₀ drum mark
 abbrev μ-loop : tie.MeasureT-loop
 μ-loop drum₀ marks₀ out₀ budget stop deck count₀ at₀ st₀ drum marks out count at st = budget - count
 
--- src/running.rt:277:5
 loop-holds : tie.Need-loop-holds Inv-loop μ-loop
 loop-holds c =
     let a = c .before .before .before .before .args in (
@@ -40,28 +35,23 @@ loop-holds c =
       ap (λ (k : ℕ). runFrom (inputs (a .deck .now) (a .out .now) (a .stop)) k (begun (a .drum .now) (a .marks .now) (a .state)) 0) (sub-zero (a .budget)),
     )
 
--- src/running.rt:278:13
 step-requires : tie.Need-step-requires Inv-loop μ-loop
 step-requires c κs =
     let v = c .before .before .before .before .loop .inv in
     (ready (v .1 .memory), subst (λ (t : State). Steady (t .problem) (t .counts)) (sym (v .1 .state-is)) (v .1 .steady), at-within (v .1 .output))
 
--- src/running.rt:283:12
 may-go-on-requires : tie.Need-may-go-on-requires Inv-loop μ-loop
 may-go-on-requires c κs =
     search needs
 
--- src/running.rt:284:21
 add-count : tie.Need-add-count Inv-loop μ-loop
 add-count c =
     omega (arith, c .before .before .before .before .before .before .before .before .before .before .before .before .before .loop-test .taken)
 
--- src/running.rt:277:5
 loop-less : tie.Need-loop-less Inv-loop μ-loop
 loop-less c =
     omega (arith, c .before .before .before .before .before .before .before .before .before .before .before .before .before .loop-test .taken)
 
--- src/running.rt:277:5
 loop-again : tie.Need-loop-again Inv-loop μ-loop
 loop-again c =
     let a = c .before .before .before .before .before .before .before .before .before .before .before .before .before .before .before .before .before .before .before .args in
@@ -74,17 +64,14 @@ loop-again c =
           (ap mayGoOn (sym (d .outcome-is)) ∙ sym (c .before .may-go-on .ensures) ∙ c .if1 .taken) ∙ v .3,
     )
 
--- src/running.rt:288:32
 completed-by-requires : tie.Need-completed-by-requires Inv-loop μ-loop
 completed-by-requires c κs =
     search needs
 
--- src/running.rt:288:24
 add-t24 : tie.Need-add-t24 Inv-loop μ-loop
 add-t24 c =
     omega (arith, c .completed-by .ensures .1, c .before .before .before .before .before .before .before .before .before .before .before .before .before .before .loop-test .taken)
 
--- src/running.rt:286:13
 same-length : tie.Need-same-length Inv-loop μ-loop
 same-length c =
     let a = c .before .before .before .before .before .before .before .before .before .before .before .before .before .before .before .before .before .before .before .before .args in
@@ -92,7 +79,6 @@ same-length c =
     let d = c .before .before .before .before .before .before .before .before .before .before .step .ensures (a .drum .now) (a .out .now) (v .0) (v .1) in
     drum-long (d .shows .memory) ∙ sym (drum-long (c .before .before .before .before .before .before .before .before .before .before .before .before .before .before .before .before .before .before .before .before .pre .memory))
 
--- src/running.rt:286:13
 same-length-2 : tie.Need-same-length-2 Inv-loop μ-loop
 same-length-2 c =
     let a = c .before .before .before .before .before .before .before .before .before .before .before .before .before .before .before .before .before .before .before .before .args in
@@ -100,7 +86,6 @@ same-length-2 c =
     let d = c .before .before .before .before .before .before .before .before .before .before .step .ensures (a .drum .now) (a .out .now) (v .0) (v .1) in
     marks-long (d .shows .memory) ∙ sym (marks-long (c .before .before .before .before .before .before .before .before .before .before .before .before .before .before .before .before .before .before .before .before .pre .memory))
 
--- src/running.rt:286:13
 same-length-3 : tie.Need-same-length-3 Inv-loop μ-loop
 same-length-3 c =
     let a = c .before .before .before .before .before .before .before .before .before .before .before .before .before .before .before .before .before .before .before .before .args in
@@ -108,7 +93,6 @@ same-length-3 c =
     let d = c .before .before .before .before .before .before .before .before .before .before .step .ensures (a .drum .now) (a .out .now) (v .0) (v .1) in
     out-long (d .shows .output)
 
--- src/running.rt:286:13
 returns : tie.Need-returns Inv-loop μ-loop
 returns c =
     let a = c .before .before .before .before .before .before .before .before .before .before .before .before .before .before .before .before .before .before .before .before .args in
@@ -124,22 +108,18 @@ returns c =
       shows = d .shows;
     })
 
--- src/running.rt:261:1
 same-length-4 : tie.Need-same-length-4 Inv-loop μ-loop
 same-length-4 c =
     drum-long (c .before .loop .inv .1 .memory) ∙ sym (drum-long (c .before .before .before .before .before .before .pre .memory))
 
--- src/running.rt:261:1
 same-length-5 : tie.Need-same-length-5 Inv-loop μ-loop
 same-length-5 c =
     marks-long (c .before .loop .inv .1 .memory) ∙ sym (marks-long (c .before .before .before .before .before .before .pre .memory))
 
--- src/running.rt:261:1
 same-length-6 : tie.Need-same-length-6 Inv-loop μ-loop
 same-length-6 c =
     out-long (c .before .loop .inv .1 .output)
 
--- src/running.rt:261:1
 returns-2 : tie.Need-returns-2 Inv-loop μ-loop
 returns-2 c =
     let a = c .before .before .before .before .before .before .args in

@@ -1,13 +1,14 @@
-use mathlib.Core.Path.{_≡_, refl, sym, ap, subst, _∙_}
-use mathlib.Core.Bool.{true, false}
-use Prim.Native.Nat.{ℕ, _+_, _≤_}
+-- `machine::running::step` meets its contract: each way out of the code is the way that the rules take at the same tests. Assumes nothing.
+use mathlib.Core.Path.{_≡_, sym, ap, subst, _∙_}
+use mathlib.Core.Bool.{true}
+use Prim.Native.Nat.{ℕ, _≤_}
 use native.Mathlib.Omega.{arith}
 use borrow.Author.Tests.{not-true, not-false}
-use Rattle.rules.specs.Drum.{shown, cellOf}
+use Rattle.rules.specs.Drum.{shown}
 use Rattle.rules.specs.Machine.{numbered}
 use Rattle.rules.specs.Running.{orderFits, asDone, obeyed, traceSent}
 use Rattle.rules.specs.declared.Cell.{Cell}
-use Rattle.rules.specs.declared.Cell.the-variants.{Owned, Foreign}
+use Rattle.rules.specs.declared.Cell.the-variants.{Owned}
 use Rattle.rules.specs.declared.State.{State}
 use Rattle.machine.specs.Lent.{Steady, Did, lent}
 use lib.ListN.{length}
@@ -16,98 +17,73 @@ use Rattle.machine.proofs.Steps.{step-zero, step-past, step-unmarked, s
 use borrow.Author.Needs.{needs}
 use Rattle.machine.proofs.running.step.Statement.{statement}
 use Rattle.machine.proofs.running.step.Tie as tie
-use Rattle.machine.proofs.running.step.Reads as reads
-use Rattle.machine.proofs.running.step.Lts as lts
-use Rattle.machine.proofs.memory.cell.Reads as cell-reads
-use Rattle.machine.proofs.running.as_done.Reads as as-done-reads
-use Rattle.machine.proofs.running.obey.Reads as obey-reads
-use Rattle.machine.proofs.running.order_fits.Reads as order-fits-reads
-use Rattle.machine.proofs.running.trace.Reads as trace-reads
 
 -- an owned cell's word
 word-fits : (c : Cell) (w : ℕ) → Owned w ≡ c → shown c ≤ 19999999999 → w ≤ 19999999999
 word-fits c w e l = subst (λ (x : Cell). shown x ≤ 19999999999) (sym e) l
 
--- src/running.rt:187:9
 returns : tie.Need-returns
 returns c =
     λ drum₀ out₀ m h. step-zero h (c .before .before .before .before .before .args .deck .now) (c .before .before .before .before .before .args .stop) (c .if1 .taken)
 
--- src/running.rt:194:9
 returns-2 : tie.Need-returns-2
 returns-2 c =
     λ drum₀ out₀ m h. step-past h (c .before .before .before .before .before .before .args .deck .now) (c .before .before .before .before .before .before .args .stop) (c .if2 .taken)
 
--- src/running.rt:200:26
 cell-requires : tie.Need-cell-requires
 cell-requires c κs = search needs
 
--- src/running.rt:200:21
 enum-known-w : tie.Need-enum-known-w
 enum-known-w c = search needs
 
--- src/running.rt:202:38
 enum-told : tie.Need-enum-told
 enum-told c = search needs
 
--- src/running.rt:201:9
 same-length : tie.Need-same-length
 same-length c = search needs
 
--- src/running.rt:201:9
 same-length-2 : tie.Need-same-length-2
 same-length-2 c = search needs
 
--- src/running.rt:201:9
 returns-3 : tie.Need-returns-3
 returns-3 c =
     λ drum₀ out₀ m h.
     step-unmarked h (c .before .before .before .before .before .before .before .before .before .before .before .args .deck .now) (c .before .before .before .before .before .before .before .before .before .before .before .args .stop) (c .before .before .before .before .before .before .if1 .left) (c .before .before .before .before .before .if2 .left) (sym (c .enum-told .given .1) ∙ c .before .before .cell .ensures)
 
--- src/running.rt:207:9
 order-fits-requires : tie.Need-order-fits-requires
 order-fits-requires c κs = search needs
 
--- src/running.rt:209:9
 same-length-3 : tie.Need-same-length-3
 same-length-3 c = search needs
 
--- src/running.rt:209:9
 same-length-4 : tie.Need-same-length-4
 same-length-4 c = search needs
 
--- src/running.rt:209:9
 returns-4 : tie.Need-returns-4
 returns-4 c =
     λ drum₀ out₀ m h.
     step-sums h (c .before .before .before .before .before .before .before .before .before .before .before .before .before .before .args .deck .now) (c .before .before .before .before .before .before .before .before .before .before .before .before .before .before .args .stop) (c .before .before .before .before .before .before .before .before .before .if1 .left) (c .before .before .before .before .before .before .before .before .if2 .left) (c .before .before .before .w .given .0 .0) (sym (c .before .before .before .w .given .1) ∙ c .before .before .before .before .before .cell .ensures)
     (sym (c .before .order-fits .ensures) ∙ not-true _ (c .if3 .taken))
 
--- src/running.rt:215:9
 as-done-requires : tie.Need-as-done-requires
 as-done-requires c κs =
     (c .before .before .before .before .before .before .before .before .before .before .before .before .before .before .pre .1, word-fits _ (c .before .before .before .w .given .0 .0) (sym (c .before .before .before .w .given .1) ∙ c .before .before .before .before .before .cell .ensures) (c .before .before .before .before .before .before .before .before .before .before .before .before .before .before .pre .0 .words (c .before .before .before .before .before .before .before .before .before .before .before .before .before .before .args .state .location) (omega (arith, c .before .before .before .before .before .before .before .before .if2 .left))))
 
--- src/running.rt:218:12
 sub-if5 : tie.Need-sub-if5
 sub-if5 c = search needs
 
--- src/running.rt:219:13
 same-length-5 : tie.Need-same-length-5
 same-length-5 c = search needs
 
--- src/running.rt:219:13
 same-length-6 : tie.Need-same-length-6
 same-length-6 c = search needs
 
--- src/running.rt:219:13
 returns-5 : tie.Need-returns-5
 returns-5 c =
     λ drum₀ out₀ m h.
     step-full h (c .before .before .before .before .before .before .before .before .before .before .before .before .before .before .before .before .before .args .deck .now) (c .before .before .before .before .before .before .before .before .before .before .before .before .before .before .before .before .before .args .stop) (c .before .before .before .before .before .before .before .before .before .before .before .before .if1 .left) (c .before .before .before .before .before .before .before .before .before .before .before .if2 .left) (c .before .before .before .before .before .before .w .given .0 .0) (sym (c .before .before .before .before .before .before .w .given .1) ∙ c .before .before .before .before .before .before .before .before .cell .ensures)
     (sym (c .before .before .before .before .order-fits .ensures) ∙ not-false _ (c .before .before .before .if3 .left)) (c .before .if4 .taken) (c .if5 .taken) (c .before .before .before .before .before .before .before .before .before .before .before .before .before .before .before .before .before .pre .2)
 
--- src/running.rt:225:13
 trace-requires : tie.Need-trace-requires
 trace-requires c κs =
     let l = word-fits _ (c .before .before .before .before .before .before .before .before .before .w .given .0 .0) (sym (c .before .before .before .before .before .before .before .before .before .w .given .1) ∙ c .before .before .before .before .before .before .before .before .before .before .before .cell .ensures) (c .before .before .before .before .before .before .before .before .before .before .before .before .before .before .before .before .before .before .before .before .pre .0 .words (c .before .before .before .before .before .before .before .before .before .before .before .before .before .before .before .before .before .before .before .before .args .state .location) (omega (arith, c .before .before .before .before .before .before .before .before .before .before .before .before .before .before .if2 .left))) in
@@ -122,12 +98,10 @@ trace-requires c κs =
       ),
     )
 
--- src/running.rt:226:39
 add-obey : tie.Need-add-obey
 add-obey c =
     omega (arith, c .before .before .before .before .before .before .before .before .before .if5 .left, c .before .before .before .before .before .before .before .before .before .before .before .before .before .before .before .before .before .before .before .before .before .before .before .before .before .before .pre .2, c .before .before .before .before .before .before .before .before .before .before .before .before .before .before .before .before .before .before .before .before .before .before .before .before .before .before .good)
 
--- src/running.rt:226:9
 obey-requires : tie.Need-obey-requires
 obey-requires c κs =
     let q : c .before .before .before .before .before .trace .result ≡ numbered (c .before .before .before .before .before .before .before .before .before .before .before .before .before .before .before .before .before .before .before .before .before .before .before .before .before .before .args .state) = c .before .before .before .before .before .trace .ensures .0 in (
@@ -137,19 +111,15 @@ obey-requires c κs =
       omega (arith, ap (λ (t : State). t .location) q, c .before .before .before .before .before .before .before .before .before .before .before .before .before .before .before .before .before .before .before .before .if2 .left),
     )
 
--- src/running.rt:226:9
 same-length-7 : tie.Need-same-length-7
 same-length-7 c = search needs
 
--- src/running.rt:226:9
 same-length-8 : tie.Need-same-length-8
 same-length-8 c = search needs
 
--- src/running.rt:226:9
 same-length-9 : tie.Need-same-length-9
 same-length-9 c = search needs
 
--- src/running.rt:226:9
 returns-6 : tie.Need-returns-6
 returns-6 c =
     λ drum₀ out₀ m h.
@@ -163,24 +133,19 @@ returns-6 c =
     (subst (λ (y : ℕ). Did drum₀ out₀ (c .before .before .before .before .before .before .obey .last .0) (c .before .before .before .before .before .before .obey .last .1 .0) (c .before .before .before .before .before .before .obey .last .1 .1 .0) (c .before .before .before .before .before .before .obey .result) (obeyed (lent (a .deck .now) (a .stop) (length out₀)) (traceSent m w y) y)) e
     (c .before .before .before .before .before .before .obey .ensures drum₀ out₀ (traceSent m w x) (c .before .before .before .before .before .before .before .before .before .before .before .before .trace .ensures .1 drum₀ out₀ m h)))
 
--- src/running.rt:228:5
 obey-requires-2 : tie.Need-obey-requires-2
 obey-requires-2 c κs =
     (c .before .before .before .before .before .before .before .before .before .before .before .before .before .before .before .before .before .before .before .pre .0, c .before .before .before .before .before .before .before .before .before .before .before .before .before .before .before .before .before .before .before .pre .1, c .before .before .before .before .before .before .before .before .before .before .before .before .before .before .before .before .before .before .before .pre .2, omega (arith, c .before .before .before .before .before .before .before .before .before .before .before .before .before .if2 .left))
 
--- src/running.rt:171:1
 same-length-10 : tie.Need-same-length-10
 same-length-10 c = search needs
 
--- src/running.rt:171:1
 same-length-11 : tie.Need-same-length-11
 same-length-11 c = search needs
 
--- src/running.rt:171:1
 same-length-12 : tie.Need-same-length-12
 same-length-12 c = search needs
 
--- src/running.rt:171:1
 returns-7 : tie.Need-returns-7
 returns-7 c =
     λ drum₀ out₀ m h.

@@ -1,3 +1,5 @@
+-- `machine::running::trace` meets its contract: the six words are read from the cells shown, and the writer is given fields in range.
+-- Assumes nothing.
 use native.Mathlib.Omega.{arith}
 use Rattle.rules.specs.Words.{bIn}
 use Rattle.machine.proofs.Shown.{word-is}
@@ -5,55 +7,37 @@ use Rattle.machine.proofs.Traces.{trace-sent}
 use borrow.Author.Needs.{needs}
 use Rattle.machine.proofs.running.trace.Statement.{statement}
 use Rattle.machine.proofs.running.trace.Tie as tie
-use Rattle.machine.proofs.running.trace.Reads as reads
-use Rattle.machine.proofs.running.trace.Lts as lts
-use Rattle.card.proofs.write_trace.Reads as write-trace-reads
-use Rattle.machine.proofs.memory.word.Reads as word-reads
-use Rattle.machine.proofs.running.box_word.Reads as box-word-reads
-use Rattle.machine.proofs.running.word_of_a.Reads as word-of-a-reads
-use Rattle.machine.proofs.states.numbered_next.Reads as numbered-next-reads
 
--- src/running.rt:90:9
 box-word-requires : tie.Need-box-word-requires
 box-word-requires c κs = search needs
 
--- src/running.rt:91:9
 word-of-a-requires : tie.Need-word-of-a-requires
 word-of-a-requires c κs = search needs
 
--- src/running.rt:92:9
 word-requires : tie.Need-word-requires
 word-requires c κs = search needs
 
--- src/running.rt:93:9
 word-requires-2 : tie.Need-word-requires-2
 word-requires-2 c κs = search needs
 
--- src/running.rt:94:9
 numbered-next-requires : tie.Need-numbered-next-requires
 numbered-next-requires c κs = search needs
 
--- src/running.rt:97:23
 sub-write-trace : tie.Need-sub-write-trace
 sub-write-trace c = search needs
 
--- src/running.rt:97:23
 part-write-trace-start : tie.Need-part-write-trace-start
 part-write-trace-start c = search needs
 
--- src/running.rt:97:23
 part-write-trace-end : tie.Need-part-write-trace-end
 part-write-trace-end c = search needs
 
--- src/running.rt:97:5
 write-trace-requires : tie.Need-write-trace-requires
 write-trace-requires c κs = search needs
 
--- src/running.rt:75:1
 same-length : tie.Need-same-length
 same-length c = search needs
 
--- src/running.rt:75:1
 returns : tie.Need-returns
 returns c = (
   c .before .before .before .before .numbered-next .ensures,

@@ -1,4 +1,4 @@
-use mathlib.Core.Path.{_∙_}
+-- `machine::running::word_of_a` meets its contract. Assumes nothing.
 use native.Mathlib.Omega.{arith}
 use borrow.Author.Tests.{lt-ltb, le-ltb}
 use Rattle.rules.specs.Words.{aIn}
@@ -6,26 +6,19 @@ use Rattle.machine.proofs.Shown.{word-is}
 use borrow.Author.Needs.{needs}
 use Rattle.machine.proofs.running.word_of_a.Statement.{statement}
 use Rattle.machine.proofs.running.word_of_a.Tie as tie
-use Rattle.machine.proofs.running.word_of_a.Reads as reads
-use Rattle.machine.proofs.running.word_of_a.Lts as lts
-use Rattle.machine.proofs.memory.word.Reads as word-reads
 
--- src/running.rt:68:13
 word-requires : tie.Need-word-requires
 word-requires c κs = search needs
 
--- src/running.rt:68:13
 returns : tie.Need-returns
 returns c =
     λ drum₀ v h.
     simp (lt-ltb _ _ (c .before .before .if1 .taken), lt-ltb _ _ (c .before .if2 .taken)) (word-is h (aIn (c .before .before .before .before .before .args .x)) (c .word .result) (omega arith) (c .word .ensures))
 
--- src/running.rt:61:1
 returns-2 : tie.Need-returns-2
 returns-2 c =
     λ drum₀ v h. simp (lt-ltb _ _ (c .before .if1 .taken), le-ltb _ _ (c .if2 .left))
 
--- src/running.rt:61:1
 returns-3 : tie.Need-returns-3
 returns-3 c =
     λ drum₀ v h. simp (le-ltb _ _ (c .if1 .left))

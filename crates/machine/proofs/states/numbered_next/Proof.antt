@@ -1,15 +1,12 @@
+-- `machine::states::numbered_next` meets its contract. Assumes nothing.
 use native.Mathlib.Nat.{mod-add-mod}
 use borrow.Author.Needs.{needs}
 use Rattle.machine.proofs.states.numbered_next.Statement.{statement}
 use Rattle.machine.proofs.states.numbered_next.Tie as tie
-use Rattle.machine.proofs.states.numbered_next.Reads as reads
-use Rattle.machine.proofs.states.numbered_next.Lts as lts
 
--- src/states.rt:28:18
 add-s : tie.Need-add-s
 add-s c = search needs
 
--- src/states.rt:25:1
 returns : tie.Need-returns
 returns c = rw mod-add-mod
 

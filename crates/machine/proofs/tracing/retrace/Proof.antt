@@ -1,86 +1,64 @@
+-- `machine::tracing::retrace` meets its contract: tracing is turned in traced mode alone. Assumes nothing.
 use mathlib.Core.Path.{refl, ap, _∙_}
-use native.Mathlib.Omega.{arith}
-use Prim.Native.Nat.{ℕ, _+_}
+use Prim.Native.Nat.{_+_}
 use Rattle.rules.specs.Machine.{wentTo}
 use Rattle.rules.specs.declared.State.{State}
-use Rattle.machine.proofs.Shown.{with-word}
 use Rattle.machine.proofs.Tracings.{turned-went, erased-went}
 use borrow.Author.Needs.{needs}
 use Rattle.machine.proofs.tracing.retrace.Statement.{statement}
 use Rattle.machine.proofs.tracing.retrace.Tie as tie
-use Rattle.machine.proofs.tracing.retrace.Reads as reads
-use Rattle.machine.proofs.tracing.retrace.Lts as lts
-use Rattle.machine.proofs.memory.keep.Reads as keep-reads
-use Rattle.machine.proofs.states.went_to.Reads as went-to-reads
-use Rattle.machine.proofs.tracing.turned.Reads as turned-reads
 
--- src/tracing.rt:35:16
 add-next : tie.Need-add-next
 add-next c = search needs
 
--- src/tracing.rt:38:17
 enum-told : tie.Need-enum-told
 enum-told c = search needs
 
--- src/tracing.rt:38:17
 turned-requires : tie.Need-turned-requires
 turned-requires c κs = search needs
 
--- src/tracing.rt:39:17
 went-to-requires : tie.Need-went-to-requires
 went-to-requires c κs = search needs
 
--- src/tracing.rt:47:17
 enum-told-2 : tie.Need-enum-told-2
 enum-told-2 c = search needs
 
--- src/tracing.rt:47:17
 turned-requires-2 : tie.Need-turned-requires-2
 turned-requires-2 c κs = search needs
 
--- src/tracing.rt:48:17
 went-to-requires-2 : tie.Need-went-to-requires-2
 went-to-requires-2 c κs = search needs
 
--- src/tracing.rt:56:33
 enum-told-3 : tie.Need-enum-told-3
 enum-told-3 c = search needs
 
--- src/tracing.rt:56:13
 keep-requires : tie.Need-keep-requires
 keep-requires c κs = search needs
 
--- src/tracing.rt:57:17
 turned-requires-3 : tie.Need-turned-requires-3
 turned-requires-3 c κs = search needs
 
--- src/tracing.rt:58:17
 went-to-requires-3 : tie.Need-went-to-requires-3
 went-to-requires-3 c κs = search needs
 
--- src/tracing.rt:23:1
 returns : tie.Need-returns
 returns c =
     λ out drum₀ out₀ m h.
     rw (c .before .before .enum-told .given .1)
     (turned-went h 1 (c .went-to .result) (c .went-to .ensures ∙ ap (λ (u : State). wentTo u (c .before .before .before .before .before .before .args .state .location + 1)) (c .before .turned .ensures)))
 
--- src/tracing.rt:23:1
 returns-2 : tie.Need-returns-2
 returns-2 c =
     λ out drum₀ out₀ m h.
     rw (c .before .before .enum-told2 .given .1)
     (turned-went h 0 (c .went-to2 .result) (c .went-to2 .ensures ∙ ap (λ (u : State). wentTo u (c .before .before .before .before .before .before .args .state .location + 1)) (c .before .turned2 .ensures)))
 
--- src/tracing.rt:23:1
 same-length : tie.Need-same-length
 same-length c = search needs
 
--- src/tracing.rt:23:1
 same-length-2 : tie.Need-same-length-2
 same-length-2 c = search needs
 
--- src/tracing.rt:23:1
 returns-3 : tie.Need-returns-3
 returns-3 c =
     λ out drum₀ out₀ m h.

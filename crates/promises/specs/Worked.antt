@@ -1,0 +1,70 @@
+-- Worked sessions, each a deck loaded on an empty drum and run once: what the program then writes. They go through the rules where these
+-- are easily misread. Assumes nothing.
+use Prim.Native.Nat.{ℕ}
+use Prim.Native.String.{String}
+use mathlib.Core.Path.{_≡_}
+use mathlib.Core.List.{List, [], _∷_, map}
+use mathlib.Core.Bool.{Bool, true, false}
+use lib.ListN.{replicate}
+use Rattle.rules.specs.Running.{ran}
+use Rattle.rules.specs.Loads.{LoadResult, loaded}
+use Rattle.rules.specs.Sheet.{sheet, barLine}
+use Rattle.rules.specs.declared.Loading.{Loading}
+use Rattle.rules.specs.declared.Loading.the-variants.{Loaded, NotLoaded}
+use Rattle.promises.specs.Session.{bytes, emptyDrum, noState}
+
+-- a deck, whether the load is traced, whether the switch is on STOP, the budget, the room for cards, and what is written
+pub record Worked : Type 0 where
+  pub deck : String
+  pub traced : Bool
+  pub stop : Bool
+  pub budget : ℕ
+  pub room : ℕ
+  pub sheet : String
+
+abbrev pub worked : String → Bool → Bool → ℕ → ℕ → String → Worked
+worked d t s b r w = record { deck = d; traced = t; stop = s; budget = b; room = r; sheet = w }
+
+-- a refused load is told by its line; else the deck is run from the state that the load left
+abbrev pub sheetAfter : Worked → LoadResult → Loading → List ℕ
+sheetAfter w x Loaded = sheet (ran (x .drum) (x .marks) (bytes (w .deck)) (replicate (w .room) 0) (x .state) (w .budget) (w .stop))
+sheetAfter w x (NotLoaded b) = barLine b
+
+abbrev pub sheetOf : Worked → List ℕ
+sheetOf w = let x = loaded emptyDrum emptyDrum (bytes (w .deck)) noState (w .traced) in sheetAfter w x (x .loading)
+
+unfoldable pub sessions : List Worked
+sessions =
+    -- the paper's session traced: three trace cards, and PCH punches nothing
+    worked "30001101+1200201202+0410202202+000020200000720002200+1000000050+2000000050007T101007" true false 999999 231
+    "X0001101+1200201202+1200201202+0000000000+1000000050+2000000050+0000000000007X0002102+0410202202+0410202202+0000000000+0000000000+3000000050+3000000050007X0003103+0000202000+0000202000+0000000000+0000000000+3000000050+3000000050007Z000103000003+3000000050" ∷
+    -- with a budget of two it ends with 02 before the stop, and with room for 21 bytes PCH is refused whole
+    worked "30001101+1200201202+0410202202+000020200000720002200+1000000050+2000000050007T101007" false false 2 22
+    "10001202+3000000050007Z020103000002+0000000000" ∷
+    worked "30001101+1200201202+0410202202+000020200000720002200+1000000050+2000000050007T101007" false false 999999 21
+    "Z220102000001+0000000000" ∷
+    -- decks that no load takes: an unknown kind, none at all, a second first-order card, a last cell past 999
+    worked "?" false false 1 0 "11 0" ∷
+    worked "" false false 1 0 "11 0" ∷
+    worked "T001000T001000" false false 1 0 "11 7" ∷
+    worked "T00100020001999+0000000000+0000000000000" false false 1 0 "11 7" ∷
+    -- the first order's cell is not owned; a cell that was never loaded is an operand
+    worked "T001000" false false 1 0 "Z210001000000+0000000000" ∷
+    worked "20001001+1002003004+1000000050000T001000" false false 9 0 "Z210001000000+0000000000" ∷
+    -- a transfer to 000 is done; the order there is refused
+    worked "10001001+0203000000000T001000" false false 9 0 "Z200000000001+0000000000" ∷
+    -- LOOP A raises its count; the minus order's code is then 455, which is not built
+    worked "10001001+010000200300010002003-0454000000000T001000" false false 9 0 "Z230003000001+0000000000" ∷
+    -- COND STOP on STOP goes to C and shows an unmarked B as +0
+    worked "10001001+0200300500000T001000" false true 9 0 "Z010500000001+0000000000" ∷
+    -- READ of two cards, and PCH of what was read, of which 012 is minus zero
+    worked "20001001+0400010012+0410010012000T00100020009010+1000000050+200000005000010009012-0000000000000" false false 2 44
+    "30001010+1000000050+2000000050-0000000000000Z020003000002+0000000000" ∷
+    -- READ whose second card does not fit stores nothing, so PCH at 002 would be refused; READ itself is tried again
+    worked "20001001+0400010012+0410010010000T00100020009010+1000000050+200000005000010009013-0000000000000" false false 2 44
+    "Z280001000000+0000000000" ∷
+    []
+
+-- every session writes what it should
+abbrev pub AllWorked : Type 0
+AllWorked = map sheetOf sessions ≡ map (λ w. bytes (w .sheet)) sessions
