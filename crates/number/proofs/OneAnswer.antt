@@ -1,18 +1,12 @@
 -- Each public function has one answer: its contract says what the answer equals, and two answers that equal a third are equal.
 -- Assumes nothing.
 use Prim.Native.Nat.{ℕ}
-use mathlib.Core.Path.{_≡_, sym, _∙_}
+use Rattle.rules.specs.Words.{isNumber}
 use Rattle.rules.specs.Arithmetic.{addOf, subOf, mpyOf, divOf, ngmpyOf, sqrtOf, absOf}
-use Rattle.rules.specs.declared.Reckoned.{Reckoned}
-
--- the answers r that a rule allows are one
-abbrev pub One : Reckoned → Type 0
-One rule = (r q : Reckoned) → r ≡ rule → q ≡ rule → r ≡ q
-
-one : (rule : Reckoned) → One rule
-one rule r q i j = i ∙ sym j
+use Rattle.digits.proofs.OneAnswer.{One, one}
 
 pub record OneAnswer (a b : ℕ) : Type 0 where
+  pub is-number : One (isNumber b)
   pub add : One (addOf a b)
   pub sub : One (subOf a b)
   pub mpy : One (mpyOf a b)
@@ -24,6 +18,7 @@ pub record OneAnswer (a b : ℕ) : Type 0 where
 pub one-answer : (a b : ℕ) → OneAnswer a b
 one-answer a b =
     record {
+      is-number = one (isNumber b);
       add = one (addOf a b);
       sub = one (subOf a b);
       mpy = one (mpyOf a b);
