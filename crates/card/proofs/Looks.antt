@@ -13,11 +13,10 @@ use Rattle.rules.proofs.Dues.{bad-more, bad-here}
 -- the places of a card of n words up to o are as they should be
 pub record Looked (n : ℕ) (d : List ℕ) (size o : ℕ) : Type 0 where
   pub from : 1 ≤ o
-  pub upto : o ≤ size
   pub same : badFrom n d o (size - o) ≡ badFrom n d 1 (size - 1)
 
-pub look-begin : (n : ℕ) (d : List ℕ) (size : ℕ) → 1 ≤ size → Looked n d size 1
-look-begin n d size h = record { from = omega arith; upto = h; same = refl }
+pub look-begin : (n : ℕ) (d : List ℕ) (size : ℕ) → Looked n d size 1
+look-begin n d size = record { from = omega arith; same = refl }
 
 module _ (n : ℕ) (d : List ℕ) (size o : ℕ) (h : Looked n d size o) where
   one-less : o < size → size - o ≡ suc (size - (o + 1))
@@ -26,7 +25,6 @@ module _ (n : ℕ) (d : List ℕ) (size o : ℕ) (h : Looked n d size o) where
   pub look-more : o < size → isDue n o (getD d o 0) ≡ true → Looked n d size (o + 1)
   look-more l e = record {
     from = omega (arith, h .from);
-    upto = omega arith;
     same =
         ap (λ (p : ℕ). badFrom n d p (size - (o + 1))) (add-one o)
         ∙ sym (bad-more n d o (size - (o + 1)) e)

@@ -10,6 +10,8 @@ use Rattle.card.proofs.checking.check_deck.Kinds as check-deck-kinds
 use Rattle.card.proofs.checking.check_deck.Reads as check-deck
 use Rattle.card.proofs.lines.write_line.Kinds as write-line-kinds
 use Rattle.card.proofs.lines.write_line.Reads as write-line
+use Rattle.card.proofs.reading.first_bad.Kinds as first-bad-kinds
+use Rattle.card.proofs.reading.first_bad.Reads as first-bad
 use Rattle.card.proofs.reading.read_card.Kinds as read-card-kinds
 use Rattle.card.proofs.reading.read_card.Reads as read-card
 use Rattle.card.proofs.reading.word_of.Kinds as word-of-kinds
@@ -32,6 +34,9 @@ Agrees ps r Post Same = (κs : Lfts 1) (a : Dens κs ps) (x y : resT r κs .Deno
 
 pub one-card : Agrees read-card-kinds.ps read-card-kinds.r read-card.Post (λ κs x y s t. x ≡ y)
 one-card κs a x y s t p q = p ∙ sym q
+
+pub one-place : Agrees first-bad-kinds.ps first-bad-kinds.r first-bad.Post (λ κs x y s t. x ≡ y)
+one-place κs a x y s t p q = p ∙ sym q
 
 pub one-word : Agrees word-of-kinds.ps word-of-kinds.r word-of.Post (λ κs x y s t. x ≡ y)
 one-word κs a x y s t p q = p ∙ sym q

@@ -54,13 +54,12 @@ pub(crate) fn is_digit(b: u8) -> bool
 
 // Whether a sign is due at place o of a card of n words.
 fn sign_due(n: usize, o: usize) -> bool
-    requires { ⌜ n ≤ 5 ⌝ }
     ensures { λ r. ⌜ r ≡ signDue n o ⌝ }
 {
     if o < 8 {
         return false;
     }
-    if 8 + 11 * n <= o {
+    if n <= (o - 8) / 11 {
         return false;
     }
     (o - 8) % 11 == 0
@@ -68,7 +67,6 @@ fn sign_due(n: usize, o: usize) -> bool
 
 // Whether the byte b is the one due at place o of a card of n words: a sign, or else a digit.
 pub(crate) fn is_due(n: usize, o: usize, b: u8) -> bool
-    requires { ⌜ n ≤ 5 ⌝ }
     ensures { λ r. ⌜ r ≡ isDue n o b ⌝ }
 {
     if sign_due(n, o) {

@@ -10,6 +10,7 @@ mod writing;
 
 pub use checking::check_deck;
 pub use lines::write_line;
+pub use reading::first_bad;
 pub use reading::read_card;
 pub use reading::word_of;
 pub use writing::write_data;

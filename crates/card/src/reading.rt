@@ -1,7 +1,6 @@
 // One card, read from what is left of a deck.
 ghost use mathlib.Core.Path.{_≡_};
-ghost use Prim.Native.Nat.{_+_, _*_, _-_, _≤_};
-ghost use lib.ListN.{length};
+ghost use Prim.Native.Nat.{_-_};
 ghost use Rattle.rules.specs.Cards.{badFrom, wordIn, wordPlace, cardOf};
 use crate::fields::byte_at;
 use crate::fields::cells_fit;
@@ -11,15 +10,13 @@ use crate::fields::number_in;
 use rules::Card;
 use rules::Fault;
 
-// The first place of a card of n words whose byte is not the one due, and its size where there is none.
-fn first_bad(d: &[u8], n: usize, size: usize) -> usize
-    requires { ⌜ n ≤ 5 ⌝ }
-    requires { ⌜ (1 ≤ size) × (size ≤ length (now d)) ⌝ }
-    ensures { λ r. ⌜ r ≡ badFrom n (now (d .entry)) 1 (size - 1) ⌝ }
+// The first place of a card of n words whose byte is not the one due, and its size where there is none. Bytes past the end count as 0.
+pub fn first_bad(rest: &[u8], n: usize, size: usize) -> usize
+    ensures { λ r. ⌜ r ≡ badFrom n (now (rest .entry)) 1 (size - 1) ⌝ }
 {
     let mut o: usize = 1;
     while o < size {
-        let b = d[o];
+        let b = byte_at(rest, o);
         if !is_due(n, o, b) {
             return o;
         }

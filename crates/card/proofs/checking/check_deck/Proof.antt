@@ -82,13 +82,13 @@ is-second-requires : tie.Need-is-second-requires Inv-loop μ-loop Inv-cards μ-c
 is-second-requires c κs = tt
 
 loop-holds : tie.Need-loop-holds Inv-loop μ-loop Inv-cards μ-cards
-loop-holds c = look-begin _ _ _ (pos-of-ne-zero (c .before .if5 .left))
+loop-holds c = look-begin _ _ _
 
 shared-slice-read-b : tie.Need-shared-slice-read-b Inv-loop μ-loop Inv-cards μ-cards
 shared-slice-read-b c = omega (arith, c .before .before .before .if6 .left)
 
 is-due-requires : tie.Need-is-due-requires Inv-loop μ-loop Inv-cards μ-cards
-is-due-requires c κs = c .before .before .before .before .before .before .before .form-of .ensures .words
+is-due-requires c κs = tt
 
 add-o : tie.Need-add-o Inv-loop μ-loop Inv-cards μ-cards
 add-o c = omega arith

