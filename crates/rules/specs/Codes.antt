@@ -1,9 +1,10 @@
--- The built codes, in the order of the newsletter's list, each with its operation and operand class. A code that is not here is not
+-- The built codes, in the order of the newsletter's list, each with its operation, operand class and name. A code that is not here is not
 -- built. Checks 20, 21 and 24 go by the class. Assumes nothing.
 use Prim.Native.Nat.{ℕ, zero, suc, _+_, _-_, _*_}
 use mathlib.Core.List.{List, [], _∷_}
 use mathlib.Core.Bool.{Bool, true, false}
 use lib.Dec.{eqb, leb, ltb}
+use Rattle.rules.specs.Texts.{bytes}
 use Rattle.rules.specs.Words.{pick, both, aIn, firstDigit, isNumber}
 use Rattle.rules.specs.Drum.{cellAt, isOwned, wordAt}
 use Rattle.rules.specs.declared.Cell.{Cell}
@@ -76,6 +77,52 @@ codes =
     row 451 (Trace StopTr) Free ∷
     row 452 (Trace StTrEras) Free ∷
     row 454 (Go Noop) Free ∷ []
+
+-- The newsletter's alphabetic code of each row, ten letters wide; behind them a dash, for a code that is not built.
+unfoldable pub names : List (List ℕ)
+names =
+    bytes "ADD       " ∷
+    bytes "SUB       " ∷
+    bytes "MPY       " ∷
+    bytes "DIV       " ∷
+    bytes "NGMPY     " ∷
+    bytes "MOVE      " ∷
+    bytes "UNC STOP  " ∷
+    bytes "COND STOP " ∷
+    bytes "TR SGN    " ∷
+    bytes "TR EXP    " ∷
+    bytes "TR        " ∷
+    bytes "TR SUBR   " ∷
+    bytes "LOOP A    " ∷
+    bytes "LOOP B    " ∷
+    bytes "LOOP C    " ∷
+    bytes "LOOP AB   " ∷
+    bytes "LOOP AC   " ∷
+    bytes "LOOP BC   " ∷
+    bytes "LOOP ABC  " ∷
+    bytes "SET A     " ∷
+    bytes "SET B     " ∷
+    bytes "SET C     " ∷
+    bytes "ADD A     " ∷
+    bytes "ADD B     " ∷
+    bytes "ADD C     " ∷
+    bytes "SUB A     " ∷
+    bytes "SUB B     " ∷
+    bytes "SUB C     " ∷
+    bytes "SQRT      " ∷
+    bytes "ABS       " ∷
+    bytes "READ      " ∷
+    bytes "PCH       " ∷
+    bytes "START TR  " ∷
+    bytes "STOP TR   " ∷
+    bytes "ST TR ERAS" ∷
+    bytes "NOOP      " ∷
+    bytes "-         " ∷ []
+
+-- the row of a code, counted from 0; behind the last where no row has it
+unfoldable pub rowOf : ℕ → List Row → ℕ
+rowOf k [] = 0
+rowOf k (r ∷ rs) = pick (eqb k (r .code)) 0 (suc (rowOf k rs))
 
 -- the first row with that code
 unfoldable pub lookup : ℕ → List Row → Built

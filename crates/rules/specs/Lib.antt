@@ -1,4 +1,5 @@
 pub mod Words
+pub mod Texts
 pub mod Rounding
 pub mod Rounded
 pub mod Numbers
@@ -12,3 +13,4 @@ pub mod Orders
 pub mod Running
 pub mod Loads
 pub mod Sheet
+pub mod Listing
