@@ -1,0 +1,92 @@
+-- `list::cards::put_cells` meets its contract. The loop's invariant: the lines of the words passed stand in the output, and all else is
+-- as it was. Assumes nothing.
+use mathlib.Core.Path.{_≡_, refl, sym, ap, subst, _∙_}
+use mathlib.Core.List.{_++_}
+use Prim.Native.Nat.{ℕ, _+_, _*_, _-_, _≤_}
+use native.Mathlib.Numerals.{add-one}
+use native.Mathlib.Omega.{arith}
+use lib.ListN.{length}
+use Rattle.rules.specs.Listing.{cellLine, cellLines}
+use Rattle.card.specs.Written.{splice}
+use Rattle.card.proofs.Splices.{splice-more, splice-none}
+use Rattle.list.proofs.Lengths.{length-cell, length-cells}
+use Rattle.list.proofs.cards.put_cells.Statement.{statement}
+use Rattle.list.proofs.cards.put_cells.Tie as tie
+
+abbrev Inv-loop : tie.InvT-loop
+Inv-loop out₀ rest location n i₀ out i = (i ≤ n) × (length out ≡ length out₀) × (out ≡ splice 32 (cellLines rest location i) out₀)
+
+abbrev μ-loop : tie.MeasureT-loop
+μ-loop out₀ rest location n i₀ out i = n - i
+
+loop-holds : tie.Need-loop-holds Inv-loop μ-loop
+unfolding cellLines
+loop-holds c = (omega arith, refl, splice-none 32 (c .before .before .args .out .now))
+
+word-of-requires : tie.Need-word-of-requires Inv-loop μ-loop
+word-of-requires c κs = tt
+
+mul-put-cell : tie.Need-mul-put-cell Inv-loop μ-loop
+mul-put-cell c = omega (arith, c .before .before .before .before .before .before .pre)
+
+add-put-cell : tie.Need-add-put-cell Inv-loop μ-loop
+add-put-cell c = omega (arith, c .before .before .before .before .before .before .pre)
+
+add-put-cell-2 : tie.Need-add-put-cell-2 Inv-loop μ-loop
+add-put-cell-2 c = omega (arith, c .before .before .before .before .before .before .pre)
+
+put-cell-requires : tie.Need-put-cell-requires Inv-loop μ-loop
+put-cell-requires c κs =
+    let s = c .before .before .before .before .before .before in
+    (omega (arith, s .pre .0, c .before .before .before .loop .inv .1), (omega (arith, s .pre .1 .0), subst (λ (w : ℕ). w ≤ 19999999999) (sym (c .before .word-of .ensures)) (s .pre .1 .1 (c .before .before .before .loop .i) (omega arith))))
+
+add-i : tie.Need-add-i Inv-loop μ-loop
+add-i c = omega arith
+
+loop-less : tie.Need-loop-less Inv-loop μ-loop
+loop-less c = omega arith
+
+loop-again : tie.Need-loop-again Inv-loop μ-loop
+unfolding cellLines
+loop-again c =
+    let s = c .before .before .before .before .before .before .before .before .before in
+    let a = s .args in
+    let l = c .before .before .before .before .before .before .loop in
+    let i = l .i in
+    let d = a .rest .now in
+    let w = c .before .before .before .before .word-of .result in (
+      omega arith,
+      c .before .before .put-cell .kept .0 ∙ l .inv .1,
+      c .before .before .put-cell .ensures
+          ∙ ap (splice (32 + 44 * i) (cellLine (a .location + i) w)) (l .inv .2)
+          ∙ splice-more 32 (32 + 44 * i) (cellLines d (a .location) i) (cellLine (a .location + i) w) (a .out .now) (omega (arith, length-cells d (a .location) i)) (omega (arith, length-cell (a .location + i) w, s .pre .0))
+          ∙ ap (λ (x : ℕ). splice 32 (cellLines d (a .location) i ++ cellLine (a .location + i) x) (a .out .now)) (c .before .before .before .before .word-of .ensures)
+          ∙ ap (λ (k : ℕ). splice 32 (cellLines d (a .location) k) (a .out .now)) (sym (add-one i)),
+    )
+
+same-length : tie.Need-same-length Inv-loop μ-loop
+same-length c = c .before .loop .inv .1
+
+returns : tie.Need-returns Inv-loop μ-loop
+returns c =
+    let a = c .before .before .before .before .args in
+    let e : c .before .loop .i ≡ a .n = omega (arith, c .before .loop .inv .0) in
+    c .before .loop .inv .2 ∙ ap (λ (k : ℕ). splice 32 (cellLines (a .rest .now) (a .location) k) (a .out .now)) e
+
+pub put-cells-spec : {M : Type 1} → statement M
+put-cells-spec =
+    tie.close
+    (tie.spec
+    Inv-loop
+    μ-loop
+    loop-holds
+    word-of-requires
+    mul-put-cell
+    add-put-cell
+    add-put-cell-2
+    put-cell-requires
+    add-i
+    loop-less
+    loop-again
+    same-length
+    returns)

@@ -1,0 +1,68 @@
+-- `list::cards::write_data` meets its contract: there is no room, or the lines of the words stand right behind the first. Assumes nothing.
+use mathlib.Core.Path.{refl}
+use Prim.Native.Nat.{_+_, _*_}
+use native.Mathlib.Omega.{arith}
+use Rattle.rules.specs.Texts.{bytes}
+use Rattle.rules.specs.Listing.{headLine, cellLines, dataLines}
+use Rattle.card.proofs.Writes.{no-line}
+use Rattle.list.proofs.Joins.{put-begin, put-more}
+use Rattle.list.proofs.Endings.{all}
+use Rattle.list.proofs.Lengths.{length-head, length-cells, length-data}
+use borrow.Author.Needs.{needs}
+use Rattle.list.proofs.cards.write_data.Statement.{statement}
+use Rattle.list.proofs.cards.write_data.Tie as tie
+
+mul-size : tie.Need-mul-size
+mul-size c = search needs
+
+add-size : tie.Need-add-size
+add-size c = search needs
+
+returns : tie.Need-returns
+returns c =
+    let s = c .before .before .before in
+    let a = s .args in
+    no-line (dataLines (a .rest .now) (a .location) (a .n)) (a .out .now) (omega (arith, c .if1 .taken, length-data (a .rest .now) (a .location) (a .n) (s .pre .0)))
+
+slice-aggregate-put-head : tie.Need-slice-aggregate-put-head
+slice-aggregate-put-head c = search needs
+
+mul-put-head : tie.Need-mul-put-head
+mul-put-head c = search needs
+
+add-put-head : tie.Need-add-put-head
+add-put-head c = search needs
+
+put-head-requires : tie.Need-put-head-requires
+put-head-requires c κs = search needs
+
+put-cells-requires : tie.Need-put-cells-requires
+put-cells-requires c κs = search needs
+
+same-length : tie.Need-same-length
+same-length c = search needs
+
+returns-2 : tie.Need-returns-2
+unfolding dataLines bytes
+returns-2 c =
+    let s = c .before .before .before .before .before .before .before .before .before .before .before .before in
+    let a = s .args in
+    let d = a .rest .now in
+    let h = put-begin {p = headLine (bytes "card  ") d (8 + 11 * a .n)} {e = 32} (c .before .before .before .before .before .before .put-head .ensures) (omega (arith, length-head (bytes "card  ") d (8 + 11 * a .n) refl (omega arith) (omega (arith, s .pre .0)))) in
+    all (dataLines d (a .location) (a .n)) (a .out .now) _ (32 + 44 * a .n) (length-data d (a .location) (a .n) (s .pre .0)) (c .before .before .before .before .before .before .before .before .before .if1 .left)
+    (put-more {e = 32 + 44 * a .n} (cellLines d (a .location) (a .n)) (44 * a .n) h (c .before .before .put-cells .ensures) (length-cells d (a .location) (a .n)) refl (c .before .before .before .before .before .before .before .before .before .if1 .left) .same)
+
+pub write-data-spec : {M : Type 1} → statement M
+write-data-spec =
+    tie.close
+    (tie.spec
+    mul-size
+    add-size
+    returns
+    slice-aggregate-put-head
+    mul-put-head
+    add-put-head
+    put-head-requires
+    put-cells-requires
+    same-length
+    returns-2)

@@ -1,0 +1,74 @@
+-- `list::kinds::is_stop` meets its contract: its tests are those of the definition. Assumes nothing.
+use mathlib.Core.List.{List}
+use mathlib.Core.Path.{sym, ap, _∙_}
+use Prim.Native.Nat.{ℕ}
+use borrow.Author.Tests.{lt-leb, le-leb, eq-eqb, ne-eqb, not-true, not-false}
+use lib.Dec.{eqb}
+use Rattle.rules.specs.Cards.{badFrom}
+use Rattle.rules.specs.Listing.{isStop}
+use Rattle.card.proofs.Checks.{part-is}
+use borrow.Author.Needs.{needs}
+use Rattle.list.proofs.kinds.is_stop.Statement.{statement}
+use Rattle.list.proofs.kinds.is_stop.Tie as tie
+
+returns : tie.Need-returns
+unfolding isStop
+returns c = simp (lt-leb 24 _ (c .if1 .taken))
+
+shared-slice-read-if2 : tie.Need-shared-slice-read-if2
+shared-slice-read-if2 c = search needs
+
+returns-2 : tie.Need-returns-2
+unfolding isStop
+returns-2 c = simp (le-leb 24 _ (c .before .before .if1 .left), ne-eqb _ 90 (c .if2 .taken))
+
+first-bad-requires : tie.Need-first-bad-requires
+first-bad-requires c κs = search needs
+
+returns-3 : tie.Need-returns-3
+unfolding isStop
+returns-3 c = simp (le-leb 24 _ (c .before .before .before .before .if1 .left), eq-eqb _ 90 (c .before .before .if2 .left), ne-eqb (badFrom 0 (c .before .before .before .before .before .before .args .rest .now) 1 12) 13 (λ e. c .if3 .taken (c .before .first-bad .ensures ∙ e)))
+
+shared-slice-read-is-sign : tie.Need-shared-slice-read-is-sign
+shared-slice-read-is-sign c = search needs
+
+is-sign-requires : tie.Need-is-sign-requires
+is-sign-requires c κs = search needs
+
+returns-4 : tie.Need-returns-4
+unfolding isStop
+returns-4 c = simp (le-leb 24 _ (c .before .before .before .before .before .before .before .if1 .left), eq-eqb _ 90 (c .before .before .before .before .before .if2 .left), eq-eqb (badFrom 0 (c .before .before .before .before .before .before .before .before .before .args .rest .now) 1 12) 13 (sym (c .before .before .before .before .first-bad .ensures) ∙ c .before .before .before .if3 .left), sym (c .before .is-sign .ensures) ∙ not-true _ (c .if4 .taken))
+
+sub-word : tie.Need-sub-word
+sub-word c = search needs
+
+part-word-start : tie.Need-part-word-start
+part-word-start c = search needs
+
+part-word-end : tie.Need-part-word-end
+part-word-end c = search needs
+
+first-bad-requires-2 : tie.Need-first-bad-requires-2
+first-bad-requires-2 c κs = search needs
+
+returns-5 : tie.Need-returns-5
+unfolding isStop
+returns-5 c = simp (le-leb 24 _ (c .before .before .before .before .before .before .before .before .before .if1 .left), eq-eqb _ 90 (c .before .before .before .before .before .before .before .if2 .left), eq-eqb (badFrom 0 (c .before .before .before .before .before .before .before .before .before .before .before .args .rest .now) 1 12) 13 (sym (c .before .before .before .before .before .before .first-bad .ensures) ∙ c .before .before .before .before .before .if3 .left), sym (c .before .before .before .is-sign .ensures) ∙ not-false _ (c .before .before .if4 .left)) (ap (λ (k : ℕ). eqb k 11) (c .first-bad2 .ensures ∙ ap (λ (l : List ℕ). badFrom 0 l 1 10) (part-is (c .before .before .before .before .before .before .before .before .before .before .before .args .rest .now) 13)))
+
+pub is-stop-spec : {M : Type 1} → statement M
+is-stop-spec =
+    tie.close
+    (tie.spec
+    returns
+    shared-slice-read-if2
+    returns-2
+    first-bad-requires
+    returns-3
+    shared-slice-read-is-sign
+    is-sign-requires
+    returns-4
+    sub-word
+    part-word-start
+    part-word-end
+    first-bad-requires-2
+    returns-5)

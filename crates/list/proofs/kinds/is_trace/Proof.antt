@@ -1,0 +1,31 @@
+-- `list::kinds::is_trace` meets its contract: its tests are those of the definition. Assumes nothing.
+use mathlib.Core.Path.{ap}
+use Prim.Native.Nat.{ℕ}
+use borrow.Author.Tests.{lt-leb, le-leb, eq-eqb, ne-eqb}
+use lib.Dec.{eqb}
+use Rattle.rules.specs.Listing.{isTrace}
+use borrow.Author.Needs.{needs}
+use Rattle.list.proofs.kinds.is_trace.Statement.{statement}
+use Rattle.list.proofs.kinds.is_trace.Tie as tie
+
+returns : tie.Need-returns
+unfolding isTrace
+returns c = simp (lt-leb 77 _ (c .if1 .taken))
+
+shared-slice-read-if2 : tie.Need-shared-slice-read-if2
+shared-slice-read-if2 c = search needs
+
+returns-2 : tie.Need-returns-2
+unfolding isTrace
+returns-2 c = simp (le-leb 77 _ (c .before .before .if1 .left), ne-eqb _ 88 (c .if2 .taken))
+
+first-bad-requires : tie.Need-first-bad-requires
+first-bad-requires c κs = search needs
+
+returns-3 : tie.Need-returns-3
+unfolding isTrace
+returns-3 c = simp (le-leb 77 _ (c .before .before .before .if1 .left), eq-eqb _ 88 (c .before .if2 .left)) (ap (λ (k : ℕ). eqb k 77) (c .first-bad .ensures))
+
+pub is-trace-spec : {M : Type 1} → statement M
+is-trace-spec =
+    tie.close (tie.spec returns shared-slice-read-if2 returns-2 first-bad-requires returns-3)

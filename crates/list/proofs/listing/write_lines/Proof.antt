@@ -1,0 +1,72 @@
+-- `list::listing::write_lines` meets its contract: by what the card is read as. Assumes nothing.
+use mathlib.Core.Path.{refl, sym, _∙_}
+use Rattle.list.proofs.Endings.{nothing}
+use Rattle.list.proofs.Answers.{as-card, data-fits, first-fits}
+use borrow.Author.Needs.{needs}
+use Rattle.list.proofs.listing.write_lines.Statement.{statement}
+use Rattle.list.proofs.listing.write_lines.Tie as tie
+
+read-card-requires : tie.Need-read-card-requires
+read-card-requires c κs = search needs
+
+enum-known-location : tie.Need-enum-known-location
+enum-known-location c = search needs
+
+write-data-requires : tie.Need-write-data-requires
+write-data-requires c κs = data-fits _ (sym (c .before .before .before .before .read-card .ensures) ∙ c .before .before .location .given .1)
+
+enum-told : tie.Need-enum-told
+enum-told c = search needs
+
+write-first-requires : tie.Need-write-first-requires
+write-first-requires c κs = first-fits _ (sym (c .before .before .before .read-card .ensures) ∙ c .before .enum-told .given .1)
+
+enum-told-2 : tie.Need-enum-told-2
+enum-told-2 c = search needs
+
+write-other-requires : tie.Need-write-other-requires
+write-other-requires c κs = search needs
+
+enum-told-3 : tie.Need-enum-told-3
+enum-told-3 c = search needs
+
+same-length : tie.Need-same-length
+same-length c = search needs
+
+returns : tie.Need-returns
+returns c = as-card _ _ _ _ _ (sym (c .before .before .before .before .before .location .given .1) ∙ c .before .before .before .before .before .before .before .read-card .ensures) (record { shown = c .before .before .write-data .ensures; taken = refl })
+
+same-length-2 : tie.Need-same-length-2
+same-length-2 c = search needs
+
+returns-2 : tie.Need-returns-2
+returns-2 c = as-card _ _ _ _ _ (sym (c .before .before .before .before .enum-told .given .1) ∙ c .before .before .before .before .before .before .read-card .ensures) (record { shown = c .before .before .write-first .ensures; taken = refl })
+
+same-length-3 : tie.Need-same-length-3
+same-length-3 c = search needs
+
+returns-3 : tie.Need-returns-3
+returns-3 c = as-card _ _ _ _ _ (sym (c .before .before .before .before .enum-told2 .given .1) ∙ c .before .before .before .before .before .before .read-card .ensures) (c .before .before .write-other .ensures)
+
+returns-4 : tie.Need-returns-4
+returns-4 c = as-card _ _ _ _ _ (sym (c .enum-told3 .given .1) ∙ c .before .before .read-card .ensures) (record { shown = nothing _ _ refl; taken = refl })
+
+pub write-lines-spec : {M : Type 1} → statement M
+write-lines-spec =
+    tie.close
+    (tie.spec
+    read-card-requires
+    enum-known-location
+    write-data-requires
+    enum-told
+    write-first-requires
+    enum-told-2
+    write-other-requires
+    enum-told-3
+    same-length
+    returns
+    same-length-2
+    returns-2
+    same-length-3
+    returns-3
+    returns-4)

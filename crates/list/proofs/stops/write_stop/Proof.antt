@@ -1,0 +1,30 @@
+-- `list::stops::write_stop` meets its contract: there is no room, or all is written. Assumes nothing.
+use native.Mathlib.Omega.{arith}
+use Rattle.rules.specs.Listing.{stopLine}
+use Rattle.card.proofs.Writes.{no-line}
+use Rattle.list.proofs.Endings.{all}
+use Rattle.list.proofs.Lengths.{length-stop}
+use borrow.Author.Needs.{needs}
+use Rattle.list.proofs.stops.write_stop.Statement.{statement}
+use Rattle.list.proofs.stops.write_stop.Tie as tie
+
+returns : tie.Need-returns
+returns c =
+    let s = c .before .before .before in
+    let a = s .args in
+    no-line (stopLine (a .rest .now)) (a .out .now) (omega (arith, c .if1 .taken, length-stop (a .rest .now) (s .pre)))
+
+put-stop-requires : tie.Need-put-stop-requires
+put-stop-requires c κs = search needs
+
+same-length : tie.Need-same-length
+same-length c = search needs
+
+returns-2 : tie.Need-returns-2
+returns-2 c =
+    let s = c .before .before .before .before .before .before .before in
+    let a = s .args in
+    all (stopLine (a .rest .now)) (a .out .now) _ 54 (length-stop (a .rest .now) (s .pre)) (c .before .before .before .before .if1 .left) (c .before .before .put-stop .ensures)
+
+pub write-stop-spec : {M : Type 1} → statement M
+write-stop-spec = tie.close (tie.spec returns put-stop-requires same-length returns-2)

@@ -1,0 +1,30 @@
+-- `list::traces::write_trace` meets its contract: there is no room, or all is written. Assumes nothing.
+use native.Mathlib.Omega.{arith}
+use Rattle.rules.specs.Listing.{traceLines}
+use Rattle.card.proofs.Writes.{no-line}
+use Rattle.list.proofs.Endings.{all}
+use Rattle.list.proofs.Lengths.{length-trace}
+use borrow.Author.Needs.{needs}
+use Rattle.list.proofs.traces.write_trace.Statement.{statement}
+use Rattle.list.proofs.traces.write_trace.Tie as tie
+
+returns : tie.Need-returns
+returns c =
+    let s = c .before .before .before in
+    let a = s .args in
+    no-line (traceLines (a .rest .now)) (a .out .now) (omega (arith, c .if1 .taken, length-trace (a .rest .now) (s .pre .0)))
+
+put-trace-requires : tie.Need-put-trace-requires
+put-trace-requires c κs = search needs
+
+same-length : tie.Need-same-length
+same-length c = search needs
+
+returns-2 : tie.Need-returns-2
+returns-2 c =
+    let s = c .before .before .before .before .before .before .before in
+    let a = s .args in
+    all (traceLines (a .rest .now)) (a .out .now) _ 232 (length-trace (a .rest .now) (s .pre .0)) (c .before .before .before .before .if1 .left) (c .before .before .put-trace .ensures)
+
+pub write-trace-spec : {M : Type 1} → statement M
+write-trace-spec = tie.close (tie.spec returns put-trace-requires same-length returns-2)
