@@ -1,6 +1,7 @@
 -- The worked sessions, computed on the definitions. Assumes nothing.
 use mathlib.Core.Path.{refl}
 use Rattle.rules.specs.Words
+use Rattle.rules.specs.Texts.{bytes}
 use Rattle.rules.specs.Rounding
 use Rattle.rules.specs.Arithmetic
 use Rattle.rules.specs.Drum
@@ -11,7 +12,7 @@ use Rattle.rules.specs.Orders
 use Rattle.rules.specs.Running
 use Rattle.rules.specs.Loads
 use Rattle.rules.specs.Sheet
-use Rattle.promises.specs.Session.{bytes, emptyDrum}
+use Rattle.promises.specs.Session.{emptyDrum}
 use Rattle.promises.specs.Worked.{AllWorked, sessions}
 
 pub all-worked : AllWorked

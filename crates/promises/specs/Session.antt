@@ -1,21 +1,15 @@
 -- The plain session of the paper: its deck is loaded on an empty drum, in plain mode, and run with the switch on RUN.
 -- Assumes nothing.
 use Prim.Native.Nat.{ℕ}
-use Prim.Native.Char.{code}
-use Prim.Native.String.{String, [] as none, _∷_ as cons}
 use mathlib.Core.Path.{_≡_}
 use mathlib.Core.List.{List, [], _∷_}
 use mathlib.Core.Bool.{false}
 use lib.ListN.{replicate, getD}
+use Rattle.rules.specs.Texts.{bytes}
 use Rattle.rules.specs.Running.{RunResult, ran}
 use Rattle.rules.specs.Loads.{LoadResult, loaded}
 use Rattle.rules.specs.Sheet.{sheet}
 use Rattle.rules.specs.declared.State.{State}
-
--- the bytes of a text
-unfoldable pub bytes : String → List ℕ
-bytes none = []
-bytes (cons c s) = code c ∷ bytes s
 
 unfoldable pub deck : List ℕ
 deck = bytes "30001101+1200201202+0410202202+000020200000720002200+1000000050+2000000050007T101007"

@@ -6,12 +6,13 @@ use mathlib.Core.Path.{_≡_}
 use mathlib.Core.List.{List, [], _∷_, map}
 use mathlib.Core.Bool.{Bool, true, false}
 use lib.ListN.{replicate}
+use Rattle.rules.specs.Texts.{bytes}
 use Rattle.rules.specs.Running.{ran}
 use Rattle.rules.specs.Loads.{LoadResult, loaded}
 use Rattle.rules.specs.Sheet.{sheet, barLine}
 use Rattle.rules.specs.declared.Loading.{Loading}
 use Rattle.rules.specs.declared.Loading.the-variants.{Loaded, NotLoaded}
-use Rattle.promises.specs.Session.{bytes, emptyDrum, noState}
+use Rattle.promises.specs.Session.{emptyDrum, noState}
 
 -- a deck, whether the load is traced, whether the switch is on STOP, the budget, the room for cards, and what is written
 pub record Worked : Type 0 where
