@@ -5,6 +5,7 @@ mod decks;
 mod files;
 mod model;
 mod numbers;
+mod recorded;
 mod self_test;
 mod sessions;
 mod verdict;
@@ -21,7 +22,8 @@ usage: second numbers SEED COUNT FILE             write cases
        second judge-numbers SEED COUNT ANSWERS    compare answers with the model's
        second judge-decks SEED COUNT ANSWERS
        second judge-sessions SEED COUNT ANSWERS
-       second self COUNT SEED                     all of these with the model alone";
+       second session FILE [traced] [stop] [budget=N]   load a deck on an empty drum and run it
+       second self COUNT SEED                     all but session with the model alone";
 
 fn main() -> ExitCode {
     let arguments: Vec<String> = std::env::args().skip(1).collect();
@@ -39,6 +41,7 @@ fn main() -> ExitCode {
 /// Does what the arguments ask; whether all is well, or none for a call that is not understood.
 fn run(arguments: &[&str]) -> Option<bool> {
     match *arguments {
+        ["session", file, ref words @ ..] => recorded::session(file, words),
         ["self", count, seed] => Some(self_test::all(count.parse().ok()?, seed.parse().ok()?)),
         [command, cases, out] => answer(command, cases, out),
         [command, seed, count, file] => {
