@@ -8,7 +8,6 @@
 int open(const char *path, int flags, ...);
 int close(int file);
 long read(int file, void *to, size_t most);
-long write(int file, const void *from, size_t most);
 int printf(const char *format, ...);
 int fflush(void *file);
 int isatty(int file);
