@@ -68,8 +68,13 @@ static const struct {
     struct l1_word (*of_two)(uint64_t a, uint64_t b);
     struct l1_word (*of_one)(uint64_t b);
 } operations[] = {
-    {"add", l1_add, 0}, {"sub", l1_sub, 0},   {"mpy", l1_mpy, 0}, {"div", l1_div, 0},
-    {"ngmpy", l1_ngmpy, 0}, {"sqrt", 0, l1_sqrt}, {"abs", 0, l1_abs},
+    {"add", l1_add, 0},
+    {"sub", l1_sub, 0},
+    {"mpy", l1_mpy, 0},
+    {"div", l1_div, 0},
+    {"ngmpy", l1_ngmpy, 0},
+    {"sqrt", 0, l1_sqrt},
+    {"abs", 0, l1_abs},
 };
 
 static const char *reason(uint64_t number)
@@ -182,7 +187,7 @@ static int choose(char **typed, int count, struct choice *c)
 /* The bytes of a card that the library wrote, by its kind: 1 to 5, or X with six words. */
 static size_t card_size(uint8_t kind)
 {
-    return 11 + 11 * (kind == 'X' ? 6ul : kind - '0' + 0ul);
+    return 11 + 11 * (kind == 'X' ? 6 : (size_t)(kind - '0'));
 }
 
 static void show_cards(size_t written, uint64_t lines)
