@@ -8,6 +8,7 @@ mod numbers;
 mod recorded;
 mod self_test;
 mod sessions;
+mod speed;
 mod verdict;
 
 use std::process::ExitCode;
@@ -23,6 +24,7 @@ usage: second numbers SEED COUNT FILE             write cases
        second judge-decks SEED COUNT ANSWERS
        second judge-sessions SEED COUNT ANSWERS
        second session FILE [traced] [stop] [budget=N]   load a deck on an empty drum and run it
+       second speed FILE plain|traced             orders a second on a deck that goes round
        second self COUNT SEED                     all but session with the model alone";
 
 fn main() -> ExitCode {
@@ -42,6 +44,7 @@ fn main() -> ExitCode {
 fn run(arguments: &[&str]) -> Option<bool> {
     match *arguments {
         ["session", file, ref words @ ..] => recorded::session(file, words),
+        ["speed", file, mode] => speed::orders(file, mode),
         ["self", count, seed] => Some(self_test::all(count.parse().ok()?, seed.parse().ok()?)),
         [command, cases, out] => answer(command, cases, out),
         [command, seed, count, file] => {
