@@ -3,7 +3,7 @@
 use Prim.Native.Nat.{ℕ}
 use mathlib.Core.Path.{_≡_}
 use mathlib.Core.List.{List}
-use mathlib.Core.Bool.{Bool, true}
+use mathlib.Core.Bool.{Bool, true, false}
 use mathlib.Core.Option.{Option, some}
 use lib.Dec.{eqb}
 use lib.ListN.{length}
@@ -15,6 +15,10 @@ use Rattle.file.specs.declared.reading.Found.{Found}
 -- bytes as many as a file has, and a drum and marks that it can fill
 abbrev pub isFile : List ℕ → List ℕ → List ℕ → Bool
 isFile drum marks bytes = both (isWhole drum marks) (eqb (length bytes) fileSize)
+
+-- of what is no file: no state
+abbrev pub notFound : Found
+notFound = record { good = false; state = noState }
 
 -- what `read_file` ensures: drum, marks and bytes at entry, the answer, drum and marks at exit
 pub record FileRead (drum₀ marks₀ bytes : List ℕ) (found : Found) (drum marks : List ℕ) : Type 0 where

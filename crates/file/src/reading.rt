@@ -2,8 +2,8 @@
 ghost use mathlib.Core.Path.{_≡_};
 ghost use lib.ListN.{length, drop};
 ghost use Prim.Native.Nat.{_≤_};
-ghost use Rattle.rules.specs.Files.{stateOf, noState};
-ghost use Rattle.file.specs.Reads.{isFile, FileRead};
+ghost use Rattle.rules.specs.Files.{stateOf};
+ghost use Rattle.file.specs.Reads.{notFound, FileRead};
 use crate::parts::fill_bytes;
 use crate::parts::fill_row;
 use crate::states::state_in;
@@ -27,7 +27,7 @@ fn state_at(bytes: &[u8]) -> State
 
 // Nothing is read.
 fn nothing() -> Found
-    ensures { λ r. ⌜ (r .good ≡ false) × (r .state ≡ noState) ⌝ }
+    ensures { λ r. ⌜ r ≡ notFound ⌝ }
 {
     let state = State {
         location: 0,

@@ -50,17 +50,17 @@ fn end_number(cells: &mut [u64], n: usize, begun: bool, x: u64) -> usize
     if !begun {
         return n;
     }
-    if n < cells.len() {
-        cells[n] = x;
+    if n == cells.len() {
+        return n + 1;
     }
+    cells[n] = x;
     n + 1
 }
 
 // The numbers of a text are put into cells, and it is answered whether they fill them: just so many and no fault. Else the cells may
 // hold anything.
 fn scan(cells: &mut [u64], text: &[u8]) -> bool
-    requires { ⌜ length (now cells) ≡ 1000 ⌝ }
-    ensures { λ r. ⌜ Scanned 1000 (numbersIn (now (text .entry))) r (now (cells .exit)) ⌝ }
+    ensures { λ r. ⌜ Scanned (length (now (cells .entry))) (numbersIn (now (text .entry))) r (now (cells .exit)) ⌝ }
 {
     let mut n: usize = 0;
     let mut begun = false;
@@ -68,6 +68,7 @@ fn scan(cells: &mut [u64], text: &[u8]) -> bool
     let mut i: usize = 0;
     while i < text.len() {
         let b = text[i];
+        i += 1;
         if is_gap(b) {
             n = end_number(cells, n, begun, x);
             if cells.len() < n {
@@ -75,14 +76,13 @@ fn scan(cells: &mut [u64], text: &[u8]) -> bool
             }
             begun = false;
             x = 0;
-        } else {
-            if !is_taken(x, b) {
-                return false;
-            }
-            x = with_digit(x, b);
-            begun = true;
+            continue;
         }
-        i += 1;
+        if !is_taken(x, b) {
+            return false;
+        }
+        x = with_digit(x, b);
+        begun = true;
     }
     n = end_number(cells, n, begun, x);
     n == cells.len()

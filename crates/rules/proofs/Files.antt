@@ -75,17 +75,13 @@ unfolding numberOf
 number-more bytes i h =
     ap numberOf (drop-cons bytes i 0 h) ∙ ap (λ (k : ℕ). getD bytes i 0 + 256 * numberOf (drop k bytes)) (sym (add-one i))
 
-pub in-more : (n : ℕ) (bytes : List ℕ) → rowIn (n + 1) bytes ≡ rowIn n bytes ++ numberOf (take 8 (drop (8 * n) bytes)) ∷ []
+pub in-at : (n : ℕ) (bytes : List ℕ) (i : ℕ) → i < n → getD (rowIn n bytes) i 0 ≡ numberOf (take 8 (drop (8 * i) bytes))
 unfolding rowIn
-in-more n bytes = ap (λ (k : ℕ). rowIn k bytes) (add-one n) ∙ next n bytes
-  where
-    next : (n : ℕ) (bytes : List ℕ) → rowIn (suc n) bytes ≡ rowIn n bytes ++ numberOf (take 8 (drop (8 * n) bytes)) ∷ []
-    next zero bytes = refl
-    next (suc n) bytes =
-        ap (λ (l : List ℕ). numberOf (take 8 bytes) ∷ l)
-        (next n (drop 8 bytes)
-        ∙ ap (λ (l : List ℕ). rowIn n (drop 8 bytes) ++ numberOf (take 8 l) ∷ [])
-        (drop-drop (8 * n) 8 bytes ∙ ap (λ (k : ℕ). drop k bytes) (let e : 8 + 8 * n ≡ 8 * suc n = omega arith in e)))
+in-at zero bytes i h = absurd (let z : ⊥ = omega arith in z)
+in-at (suc n) bytes zero h = refl
+in-at (suc n) bytes (suc i) h =
+    in-at n (drop 8 bytes) i (le-of-suc-le-suc h)
+    ∙ ap (λ (l : List ℕ). numberOf (take 8 l)) (drop-drop (8 * i) 8 bytes ∙ ap (λ (k : ℕ). drop k bytes) (let e : 8 + 8 * i ≡ 8 * suc i = omega arith in e))
 
 -- ---- a number written is read, and read is written
 

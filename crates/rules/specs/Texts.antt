@@ -5,12 +5,12 @@ use mathlib.Core.Bool.{Bool, true, false}
 use mathlib.Core.Option.{Option, none, some}
 use lib.Dec.{eqb, ltb}
 use lib.ListN.{length}
-use Rattle.rules.specs.Words.{pick, both}
+use Rattle.rules.specs.Words.{pick, both, either}
 use Rattle.rules.specs.Cards.{zeroByte, spaceByte, isDigit}
 
 -- A gap is spaces and line ends. The byte 13 stands before each line end in a file from a PC.
 abbrev pub isGap : ℕ → Bool
-isGap b = pick (eqb b spaceByte) true (pick (eqb b 10) true (eqb b 13))
+isGap b = either (eqb b spaceByte) (either (eqb b 10) (eqb b 13))
 
 -- a number with one more digit, and whether that is a digit and the number still below 2 to the power 64
 abbrev pub withDigit : ℕ → ℕ → ℕ

@@ -1,81 +1,77 @@
+-- `file::scan` meets its contract: at each byte what is left of the text has the numbers of the whole. Assumes nothing.
+use mathlib.Core.Path.{_≡_, sym, ap, _∙_}
+use Prim.Native.Nat.{ℕ, _-_}
+use native.Mathlib.Omega.{arith}
+use borrow.Author.Tests.{not-true, not-false}
+use lib.ListN.{length}
+use Rattle.file.proofs.Scans.{Reading, reading-begins, reading-gap, reading-full, reading-digit, reading-bad, reading-ends}
 use Rattle.file.proofs.texts.scan.Statement.{statement}
 use Rattle.file.proofs.texts.scan.Tie as tie
-use Rattle.file.proofs.texts.scan.Reads as reads
-use Rattle.file.proofs.texts.scan.Lts as lts
-use Rattle.file.proofs.texts.end_number.Reads as end-number-reads
-use Rattle.file.proofs.texts.is_gap.Reads as is-gap-reads
-use Rattle.file.proofs.texts.is_taken.Reads as is-taken-reads
-use Rattle.file.proofs.texts.with_digit.Reads as with-digit-reads
 
 abbrev Inv-loop : tie.InvT-loop
-Inv-loop cells₀ text n₀ begun₀ x₀ i₀ cells n begun x i = ?
+Inv-loop cells₀ text n₀ begun₀ x₀ i₀ cells n begun x i = Reading (length cells₀) text cells n begun x i
 
 abbrev μ-loop : tie.MeasureT-loop
-μ-loop cells₀ text n₀ begun₀ x₀ i₀ cells n begun x i = ?
+μ-loop cells₀ text n₀ begun₀ x₀ i₀ cells n begun x i = length text - i
 
--- src/texts.rt:69:5
 loop-holds : tie.Need-loop-holds Inv-loop μ-loop
-loop-holds c = ?
+loop-holds c = reading-begins (c .before .before .args .text .now) (c .before .before .args .cells .now)
 
--- src/texts.rt:70:17
 shared-slice-read-b : tie.Need-shared-slice-read-b Inv-loop μ-loop
-shared-slice-read-b c = ?
+shared-slice-read-b c = omega arith
 
--- src/texts.rt:71:12
-is-gap-requires : tie.Need-is-gap-requires Inv-loop μ-loop
-is-gap-requires c κs = ?
-
--- src/texts.rt:72:13
-end-number-requires : tie.Need-end-number-requires Inv-loop μ-loop
-end-number-requires c κs = ?
-
--- src/texts.rt:74:17
-same-length : tie.Need-same-length Inv-loop μ-loop
-same-length c = ?
-
--- src/texts.rt:74:17
-returns : tie.Need-returns Inv-loop μ-loop
-returns c = ?
-
--- src/texts.rt:79:17
-is-taken-requires : tie.Need-is-taken-requires Inv-loop μ-loop
-is-taken-requires c κs = ?
-
--- src/texts.rt:80:17
-same-length-2 : tie.Need-same-length-2 Inv-loop μ-loop
-same-length-2 c = ?
-
--- src/texts.rt:80:17
-returns-2 : tie.Need-returns-2 Inv-loop μ-loop
-returns-2 c = ?
-
--- src/texts.rt:82:13
-with-digit-requires : tie.Need-with-digit-requires Inv-loop μ-loop
-with-digit-requires c κs = ?
-
--- src/texts.rt:85:9
 add-i : tie.Need-add-i Inv-loop μ-loop
-add-i c = ?
+add-i c = omega arith
 
--- src/texts.rt:69:5
+is-gap-requires : tie.Need-is-gap-requires Inv-loop μ-loop
+is-gap-requires c κs = tt
+
+end-number-requires : tie.Need-end-number-requires Inv-loop μ-loop
+end-number-requires c κs = c .before .before .before .before .before .loop .inv .few
+
+same-length : tie.Need-same-length Inv-loop μ-loop
+same-length c = c .before .before .before .end-number .kept .0 ∙ c .before .before .before .before .before .before .before .before .before .loop .inv .whole
+
+returns : tie.Need-returns Inv-loop μ-loop
+returns c =
+    reading-full (c .before .before .before .before .before .before .before .before .before .loop .inv) (c .before .before .before .end-number .result) (c .before .before .before .end-number .last .0) (c .before .before .before .before .before .before .before .before .loop-test .taken) (sym (c .before .before .before .before .before .before .is-gap .ensures) ∙ c .before .before .before .before .before .if1 .taken) (c .before .before .before .end-number .ensures .0) (c .before .before .before .end-number .ensures .1) (c .if2 .taken)
+
 loop-less : tie.Need-loop-less Inv-loop μ-loop
-loop-less c = ?
+loop-less c = omega arith
 
--- src/texts.rt:69:5
 loop-again : tie.Need-loop-again Inv-loop μ-loop
-loop-again c = ?
+loop-again c =
+    reading-gap (c .before .before .before .before .before .before .before .before .before .loop .inv) (c .before .before .before .end-number .result) (c .before .before .before .end-number .last .0) (c .before .before .before .before .before .before .before .before .loop-test .taken) (sym (c .before .before .before .before .before .before .is-gap .ensures) ∙ c .before .before .before .before .before .if1 .taken) (c .before .before .before .end-number .ensures .0) (c .before .before .before .end-number .ensures .1) (c .if2 .left)
 
--- src/texts.rt:87:5
+is-taken-requires : tie.Need-is-taken-requires Inv-loop μ-loop
+is-taken-requires c κs = tt
+
+same-length-2 : tie.Need-same-length-2 Inv-loop μ-loop
+same-length-2 c = c .before .before .before .before .before .before .loop .inv .whole
+
+returns-2 : tie.Need-returns-2 Inv-loop μ-loop
+returns-2 c =
+    reading-bad (c .before .before .before .before .before .before .loop .inv) (c .before .before .before .before .before .loop-test .taken) (sym (c .before .before .before .is-gap .ensures) ∙ c .before .before .if1 .left) (sym (c .before .is-taken .ensures) ∙ not-true _ (c .if3 .taken))
+
+with-digit-requires : tie.Need-with-digit-requires Inv-loop μ-loop
+with-digit-requires c κs = sym (c .before .is-taken .ensures) ∙ not-false _ (c .if3 .left)
+
+loop-less-2 : tie.Need-loop-less-2 Inv-loop μ-loop
+loop-less-2 c = omega arith
+
+loop-again-2 : tie.Need-loop-again-2 Inv-loop μ-loop
+loop-again-2 c =
+    reading-digit (c .before .before .before .before .before .before .before .loop .inv) (c .with-digit .result) (c .before .before .before .before .before .before .loop-test .taken) (sym (c .before .before .before .before .is-gap .ensures) ∙ c .before .before .before .if1 .left) (sym (c .before .before .is-taken .ensures) ∙ not-false _ (c .before .if3 .left)) (c .with-digit .ensures)
+
 end-number-requires-2 : tie.Need-end-number-requires-2 Inv-loop μ-loop
-end-number-requires-2 c κs = ?
+end-number-requires-2 c κs = c .before .before .loop .inv .few
 
--- src/texts.rt:61:1
 same-length-3 : tie.Need-same-length-3 Inv-loop μ-loop
-same-length-3 c = ?
+same-length-3 c = c .before .before .end-number2 .kept .0 ∙ c .before .before .before .before .before .loop .inv .whole
 
--- src/texts.rt:61:1
 returns-3 : tie.Need-returns-3 Inv-loop μ-loop
-returns-3 c = ?
+returns-3 c =
+    reading-ends (c .before .before .before .before .before .loop .inv) (c .before .before .end-number2 .result) (c .before .before .end-number2 .last .0) (omega arith) (c .before .before .end-number2 .ensures .0) (c .before .before .end-number2 .ensures .1)
 
 pub scan-spec : {M : Type 1} → statement M
 scan-spec =
@@ -85,17 +81,19 @@ scan-spec =
     μ-loop
     loop-holds
     shared-slice-read-b
+    add-i
     is-gap-requires
     end-number-requires
     same-length
     returns
+    loop-less
+    loop-again
     is-taken-requires
     same-length-2
     returns-2
     with-digit-requires
-    add-i
-    loop-less
-    loop-again
+    loop-less-2
+    loop-again-2
     end-number-requires-2
     same-length-3
     returns-3)
