@@ -1,42 +1,37 @@
+-- `file::read_cells` meets its contract: the drum has another length, the text does not fill it, or it does. Assumes nothing.
+use mathlib.Core.Path.{sym, _∙_}
 use borrow.Author.Needs.{needs}
+use borrow.Author.Tests.{not-true, not-false}
+use Rattle.file.proofs.Wholes.{bad-length, bad-text, was-filled}
 use Rattle.file.proofs.texts.read_cells.Statement.{statement}
 use Rattle.file.proofs.texts.read_cells.Tie as tie
-use Rattle.file.proofs.texts.read_cells.Reads as reads
-use Rattle.file.proofs.texts.read_cells.Lts as lts
-use Rattle.file.proofs.texts.put_cells.Reads as put-cells-reads
-use Rattle.file.proofs.texts.scan.Reads as scan-reads
 
--- src/texts.rt:108:9
 returns : tie.Need-returns
-returns c = ?
+returns c = bad-length (c .before .before .before .args .drum .now) (c .before .before .before .args .text .now) (c .if1 .taken)
 
--- src/texts.rt:111:14
 slice-aggregate-scan : tie.Need-slice-aggregate-scan
 slice-aggregate-scan c = search needs
 
--- src/texts.rt:111:9
 scan-requires : tie.Need-scan-requires
 scan-requires c κs = search needs
 
--- src/texts.rt:112:9
 returns-2 : tie.Need-returns-2
-returns-2 c = ?
+returns-2 c =
+    bad-text (c .before .before .before .before .before .before .before .args .drum .now) (c .before .before .before .before .before .before .before .args .text .now) (sym (c .before .before .scan .ensures .answer) ∙ not-true _ (c .if2 .taken))
 
--- src/texts.rt:114:21
 slice-aggregate-put-cells : tie.Need-slice-aggregate-put-cells
 slice-aggregate-put-cells c = search needs
 
--- src/texts.rt:114:5
 put-cells-requires : tie.Need-put-cells-requires
 put-cells-requires c κs = search needs
 
--- src/texts.rt:104:1
 same-length : tie.Need-same-length
 same-length c = search needs
 
--- src/texts.rt:104:1
 returns-3 : tie.Need-returns-3
-returns-3 c = ?
+returns-3 c =
+    let t = not-false _ (c .before .before .before .before .before .if2 .left) in
+    was-filled (c .before .before .before .before .before .before .before .before .before .before .before .before .args .drum .now) (c .before .before .before .before .before .before .before .before .before .before .before .before .args .text .now) (c .before .before .before .before .before .before .before .scan .last .0) (c .before .before .before .before .before .before .before .before .before .if1 .left) (sym (c .before .before .before .before .before .before .before .scan .ensures .answer) ∙ t) (c .before .before .before .before .before .before .before .scan .ensures .numbers t) (c .before .before .put-cells .ensures)
 
 pub read-cells-spec : {M : Type 1} → statement M
 read-cells-spec =
