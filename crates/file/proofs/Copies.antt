@@ -7,7 +7,7 @@ use native.Mathlib.Nat.{zero-add}
 use native.Mathlib.Numerals.{add-one}
 use native.Mathlib.Omega.{arith}
 use lib.ListN.{length, getD, take, drop, set, drop-of-length-le}
-use lib.Seq.{paste, paste-suc, take-length, drop-length}
+use lib.Seq.{paste, paste-suc, take-length}
 use Rattle.card.specs.Written.{splice}
 
 module _ {l : List ℕ} (d s : List ℕ) (a i : ℕ) (e : l ≡ paste d a s i) where

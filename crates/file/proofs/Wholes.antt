@@ -1,8 +1,8 @@
 -- How reading ends: a length is wrong and nothing is changed, or all is read. Assumes nothing.
-use mathlib.Core.Path.{_≡_, refl, sym, ap, ap₂, subst, _∙_}
+use mathlib.Core.Path.{_≡_, refl, sym, ap, ap₂, _∙_}
 use mathlib.Core.List.{List}
 use mathlib.Core.Bool.{Bool, true, false}
-use mathlib.Core.Option.{Option, some}
+use mathlib.Core.Option.{some}
 use Prim.Native.Nat.{ℕ}
 use lib.Dec.{eqb}
 use lib.ListN.{length}
@@ -10,8 +10,7 @@ use borrow.Author.Tests.{eq-eqb, ne-eqb}
 use Rattle.rules.specs.Words.{pick, both}
 use Rattle.rules.specs.Files.{isWhole, drumIn, marksIn, stateOf, noState}
 use Rattle.rules.specs.Texts.{numbersIn, isCount, numbersOr, fills, drumFilled}
-use Rattle.rules.specs.declared.State.{State}
-use Rattle.file.specs.Reads.{isFile, notFound, FileRead, Scanned, CellsRead}
+use Rattle.file.specs.Reads.{isFile, notFound, FileRead, CellsRead}
 use Rattle.file.specs.declared.reading.Found.{Found}
 
 -- ---- the lengths

@@ -1,6 +1,6 @@
 // The machine file read: all of it, or nothing.
 ghost use mathlib.Core.Path.{_≡_};
-ghost use lib.ListN.{length, drop};
+ghost use lib.ListN.{length};
 ghost use Prim.Native.Nat.{_≤_};
 ghost use Rattle.rules.specs.Files.{stateOf};
 ghost use Rattle.file.specs.Reads.{notFound, FileRead};

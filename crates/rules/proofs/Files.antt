@@ -85,14 +85,14 @@ in-at (suc n) bytes (suc i) h =
 
 -- ---- a number written is read, and read is written
 
-pub low-number : (n x : ℕ) → x < 256 ^ n → numberOf (lowBytes n x) ≡ x
+low-number : (n x : ℕ) → x < 256 ^ n → numberOf (lowBytes n x) ≡ x
 unfolding lowBytes numberOf
 low-number zero x h = omega arith
 low-number (suc n) x h =
     let e : 256 ^ suc n ≡ 256 ^ n * 256 = pow-suc 256 n in
     ap (λ (k : ℕ). x % 256 + 256 * k) (low-number n (x / 256) (omega arith)) ∙ omega arith
 
-pub number-low : (bytes : List ℕ) → AllBelow 256 bytes → lowBytes (length bytes) (numberOf bytes) ≡ bytes
+number-low : (bytes : List ℕ) → AllBelow 256 bytes → lowBytes (length bytes) (numberOf bytes) ≡ bytes
 unfolding lowBytes numberOf
 number-low [] h = refl
 number-low (b ∷ bytes) h =
@@ -104,7 +104,7 @@ number-low (b ∷ bytes) h =
 
 -- ---- a row written is read, and read is written
 
-pub row-read : (row rest : List ℕ) → AllBelow (2 ^ 64) row → rowIn (length row) (rowBytes row ++ rest) ≡ row
+row-read : (row rest : List ℕ) → AllBelow (2 ^ 64) row → rowIn (length row) (rowBytes row ++ rest) ≡ row
 unfolding rowBytes rowIn
 row-read [] rest h = refl
 row-read (x ∷ row) rest h =
@@ -116,7 +116,7 @@ row-read (x ∷ row) rest h =
     ∙ ap (rowIn (length row)) (drop-at b (rowBytes row ++ rest) 8 (length-low 8 x))
     ∙ row-read row rest (λ i l. h (suc i) (omega arith)))
 
-pub row-written : (n : ℕ) (bytes : List ℕ) → AllBelow 256 bytes → 8 * n ≤ length bytes → rowBytes (rowIn n bytes) ≡ take (8 * n) bytes
+row-written : (n : ℕ) (bytes : List ℕ) → AllBelow 256 bytes → 8 * n ≤ length bytes → rowBytes (rowIn n bytes) ≡ take (8 * n) bytes
 unfolding rowBytes rowIn
 row-written zero bytes h l = refl
 row-written (suc n) bytes h l =

@@ -1,7 +1,7 @@
 -- `file::put_number` meets its contract. The loop's invariant: the bytes passed stand in the output, and what is left of the number is
 -- above them. Assumes nothing.
 use mathlib.Core.Path.{_≡_, refl, sym, ap, _∙_}
-use Prim.Native.Nat.{ℕ, _+_, _-_, _%_, _/_, _≤_}
+use Prim.Native.Nat.{ℕ, _-_, _%_, _/_, _≤_}
 use native.Mathlib.Omega.{arith}
 use lib.ListN.{length, length-set}
 use lib.Seq.{paste, paste-zero}

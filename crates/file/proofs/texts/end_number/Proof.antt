@@ -1,12 +1,11 @@
 -- `file::end_number` meets its contract: nothing was begun, there is no such place, or the number is stored. Assumes nothing.
 use mathlib.Core.Bool.{Bool, true, false}
-use mathlib.Core.List.{List}
-use mathlib.Core.Path.{_≡_, refl, sym, ap, _∙_}
-use Prim.Native.Nat.{ℕ, _+_}
+use mathlib.Core.Path.{_≡_, sym, ap, _∙_}
+use Prim.Native.Nat.{_+_}
 use native.Mathlib.Omega.{arith}
 use borrow.Author.Needs.{needs}
 use borrow.Author.Tests.{not-true, not-false}
-use lib.ListN.{length, set}
+use lib.ListN.{set}
 use lib.Seq.{set-out}
 use Rattle.rules.specs.Words.{pick}
 use Rattle.file.proofs.texts.end_number.Statement.{statement}

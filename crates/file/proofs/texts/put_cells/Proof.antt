@@ -1,6 +1,6 @@
 -- `file::put_cells` meets its contract. The loop's invariant: the cells passed stand at the drum's start. Assumes nothing.
 use mathlib.Core.Path.{_≡_, refl}
-use Prim.Native.Nat.{ℕ, _-_, _≤_}
+use Prim.Native.Nat.{_-_, _≤_}
 use native.Mathlib.Omega.{arith}
 use lib.ListN.{length, getD, length-set}
 use lib.Seq.{paste, paste-zero}

@@ -1,10 +1,9 @@
 -- `file::write_file` meets its contract: it is refused for a length or for the room, or all of it is written. Assumes nothing.
 use mathlib.Core.List.{List, _++_}
-use mathlib.Core.Path.{_≡_, ap, _∙_}
+use mathlib.Core.Path.{ap, _∙_}
 use Prim.Native.Nat.{ℕ}
 use native.Mathlib.Omega.{arith}
 use borrow.Author.Needs.{needs}
-use lib.ListN.{length}
 use Rattle.rules.specs.Files.{rowBytes, fileOf}
 use Rattle.rules.specs.Running.{over}
 use Rattle.rules.proofs.Files.{length-file}
