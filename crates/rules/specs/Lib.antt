@@ -12,3 +12,6 @@ pub mod Orders
 pub mod Running
 pub mod Loads
 pub mod Sheet
+pub mod States
+pub mod Files
+pub mod Texts
