@@ -1,11 +1,11 @@
--- `machine::running::word_of_a` meets its contract. Assumes nothing.
+-- `machine::telling::word_of_a` meets its contract. Assumes nothing.
 use native.Mathlib.Omega.{arith}
 use borrow.Author.Tests.{lt-ltb, le-ltb}
 use Rattle.rules.specs.Words.{aIn}
 use Rattle.machine.proofs.Shown.{word-is}
 use borrow.Author.Needs.{needs}
-use Rattle.machine.proofs.running.word_of_a.Statement.{statement}
-use Rattle.machine.proofs.running.word_of_a.Tie as tie
+use Rattle.machine.proofs.telling.word_of_a.Statement.{statement}
+use Rattle.machine.proofs.telling.word_of_a.Tie as tie
 
 word-requires : tie.Need-word-requires
 word-requires c κs = search needs

@@ -1,4 +1,4 @@
--- `machine::running::step` meets its contract: each way out of the code is the way that the rules take at the same tests. Assumes nothing.
+-- `machine::obeying::step` meets its contract: each way out of the code is the way that the rules take at the same tests. Assumes nothing.
 use mathlib.Core.Path.{_≡_, sym, ap, subst, _∙_}
 use mathlib.Core.Bool.{true}
 use Prim.Native.Nat.{ℕ, _≤_}
@@ -15,8 +15,8 @@ use lib.ListN.{length}
 use Rattle.machine.proofs.Orders.{done-word}
 use Rattle.machine.proofs.Steps.{step-zero, step-past, step-unmarked, step-sums, step-plain, step-full, step-traced}
 use borrow.Author.Needs.{needs}
-use Rattle.machine.proofs.running.step.Statement.{statement}
-use Rattle.machine.proofs.running.step.Tie as tie
+use Rattle.machine.proofs.obeying.step.Statement.{statement}
+use Rattle.machine.proofs.obeying.step.Tie as tie
 
 -- an owned cell's word
 word-fits : (c : Cell) (w : ℕ) → Owned w ≡ c → shown c ≤ 19999999999 → w ≤ 19999999999
@@ -67,7 +67,7 @@ returns-4 c =
 
 as-done-requires : tie.Need-as-done-requires
 as-done-requires c κs =
-    (c .before .before .before .before .before .before .before .before .before .before .before .before .before .before .pre .1, word-fits _ (c .before .before .before .w .given .0 .0) (sym (c .before .before .before .w .given .1) ∙ c .before .before .before .before .before .cell .ensures) (c .before .before .before .before .before .before .before .before .before .before .before .before .before .before .pre .0 .words (c .before .before .before .before .before .before .before .before .before .before .before .before .before .before .args .state .location) (omega (arith, c .before .before .before .before .before .before .before .before .if2 .left))))
+    (c .before .before .before .before .before .before .before .before .before .before .before .before .before .before .pre .0 .1, word-fits _ (c .before .before .before .w .given .0 .0) (sym (c .before .before .before .w .given .1) ∙ c .before .before .before .before .before .cell .ensures) (c .before .before .before .before .before .before .before .before .before .before .before .before .before .before .pre .0 .0 .words (c .before .before .before .before .before .before .before .before .before .before .before .before .before .before .args .state .location) (omega (arith, c .before .before .before .before .before .before .before .before .if2 .left))))
 
 sub-if5 : tie.Need-sub-if5
 sub-if5 c = search needs
@@ -82,33 +82,36 @@ returns-5 : tie.Need-returns-5
 returns-5 c =
     λ drum₀ out₀ m h.
     step-full h (c .before .before .before .before .before .before .before .before .before .before .before .before .before .before .before .before .before .args .deck .now) (c .before .before .before .before .before .before .before .before .before .before .before .before .before .before .before .before .before .args .stop) (c .before .before .before .before .before .before .before .before .before .before .before .before .if1 .left) (c .before .before .before .before .before .before .before .before .before .before .before .if2 .left) (c .before .before .before .before .before .before .w .given .0 .0) (sym (c .before .before .before .before .before .before .w .given .1) ∙ c .before .before .before .before .before .before .before .before .cell .ensures)
-    (sym (c .before .before .before .before .order-fits .ensures) ∙ not-false _ (c .before .before .before .if3 .left)) (c .before .if4 .taken) (c .if5 .taken) (c .before .before .before .before .before .before .before .before .before .before .before .before .before .before .before .before .before .pre .2)
+    (sym (c .before .before .before .before .order-fits .ensures) ∙ not-false _ (c .before .before .before .if3 .left)) (c .before .if4 .taken) (c .if5 .taken) (c .before .before .before .before .before .before .before .before .before .before .before .before .before .before .before .before .before .pre .0 .2)
 
 trace-requires : tie.Need-trace-requires
 trace-requires c κs =
-    let l = word-fits _ (c .before .before .before .before .before .before .before .before .before .w .given .0 .0) (sym (c .before .before .before .before .before .before .before .before .before .w .given .1) ∙ c .before .before .before .before .before .before .before .before .before .before .before .cell .ensures) (c .before .before .before .before .before .before .before .before .before .before .before .before .before .before .before .before .before .before .before .before .pre .0 .words (c .before .before .before .before .before .before .before .before .before .before .before .before .before .before .before .before .before .before .before .before .args .state .location) (omega (arith, c .before .before .before .before .before .before .before .before .before .before .before .before .before .before .if2 .left))) in
+    let l = word-fits _ (c .before .before .before .before .before .before .before .before .before .w .given .0 .0) (sym (c .before .before .before .before .before .before .before .before .before .w .given .1) ∙ c .before .before .before .before .before .before .before .before .before .before .before .cell .ensures) (c .before .before .before .before .before .before .before .before .before .before .before .before .before .before .before .before .before .before .before .before .pre .0 .0 .words (c .before .before .before .before .before .before .before .before .before .before .before .before .before .before .before .before .before .before .before .before .args .state .location) (omega (arith, c .before .before .before .before .before .before .before .before .before .before .before .before .before .before .if2 .left))) in
     let f : orderFits (c .before .before .before .before .before .before .before .before .before .before .before .before .before .before .before .before .before .before .before .before .args .state) (c .before .before .before .before .before .before .before .before .before .w .given .0 .0) ≡ true = sym (c .before .before .before .before .before .before .before .order-fits .ensures) ∙ not-false _ (c .before .before .before .before .before .before .if3 .left) in (
-      (c .before .before .before .before .before .before .before .before .before .before .before .before .before .before .before .before .before .before .before .before .pre .0, c .before .before .before .before .before .before .before .before .before .before .before .before .before .before .before .before .before .before .before .before .pre .1),
+      (c .before .before .before .before .before .before .before .before .before .before .before .before .before .before .before .before .before .before .before .before .pre .0 .0, c .before .before .before .before .before .before .before .before .before .before .before .before .before .before .before .before .before .before .before .before .pre .0 .1),
       (
         omega (arith, c .before .before .before .before .before .before .before .before .before .before .before .before .before .before .before .if1 .left),
         c .before .before .before .before .before .before .before .before .before .before .before .before .before .before .if2 .left,
         l,
         subst (λ (n : ℕ). n ≤ 19999999999) (sym (c .before .before .before .before .before .as-done .ensures)) (done-word (c .before .before .before .before .before .before .before .before .before .before .before .before .before .before .before .before .before .before .before .before .args .state) (c .before .before .before .before .before .before .before .before .before .w .given .0 .0) l f),
-        omega (arith, c .before .before .before .if5 .left, c .before .before .before .before .before .before .before .before .before .before .before .before .before .before .before .before .before .before .before .before .pre .2),
+        omega (arith, c .before .before .before .if5 .left, c .before .before .before .before .before .before .before .before .before .before .before .before .before .before .before .before .before .before .before .before .pre .0 .2),
       ),
     )
 
 add-obey : tie.Need-add-obey
 add-obey c =
-    omega (arith, c .before .before .before .before .before .before .before .before .before .if5 .left, c .before .before .before .before .before .before .before .before .before .before .before .before .before .before .before .before .before .before .before .before .before .before .before .before .before .before .pre .2, c .before .before .before .before .before .before .before .before .before .before .before .before .before .before .before .before .before .before .before .before .before .before .before .before .before .before .good)
+    omega (arith, c .before .before .before .before .before .before .before .before .before .if5 .left, c .before .before .before .before .before .before .before .before .before .before .before .before .before .before .before .before .before .before .before .before .before .before .before .before .before .before .pre .0 .2, c .before .before .before .before .before .before .before .before .before .before .before .before .before .before .before .before .before .before .before .before .before .before .before .before .before .before .good)
 
 obey-requires : tie.Need-obey-requires
 obey-requires c κs =
     let q : c .before .before .before .before .before .trace .result ≡ numbered (c .before .before .before .before .before .before .before .before .before .before .before .before .before .before .before .before .before .before .before .before .before .before .before .before .before .before .args .state) = c .before .before .before .before .before .trace .ensures .0 in (
-      c .before .before .before .before .before .before .before .before .before .before .before .before .before .before .before .before .before .before .before .before .before .before .before .before .before .before .pre .0,
-      subst (λ (t : State). Steady (t .problem) (t .counts)) (sym q) (c .before .before .before .before .before .before .before .before .before .before .before .before .before .before .before .before .before .before .before .before .before .before .before .before .before .before .pre .1),
-      omega (arith, c .before .before .before .before .before .before .before .before .before .if5 .left, c .before .before .before .before .before .before .before .before .before .before .before .before .before .before .before .before .before .before .before .before .before .before .before .before .before .before .pre .2, c .before .before .before .before .before .trace .kept .1 .1 .0),
-      omega (arith, ap (λ (t : State). t .location) q, c .before .before .before .before .before .before .before .before .before .before .before .before .before .before .before .before .before .before .before .before .if2 .left),
+      (
+        c .before .before .before .before .before .before .before .before .before .before .before .before .before .before .before .before .before .before .before .before .before .before .before .before .before .before .pre .0 .0,
+        subst (λ (t : State). Steady (t .problem) (t .counts)) (sym q) (c .before .before .before .before .before .before .before .before .before .before .before .before .before .before .before .before .before .before .before .before .before .before .before .before .before .before .pre .0 .1),
+        omega (arith, c .before .before .before .before .before .before .before .before .before .if5 .left, c .before .before .before .before .before .before .before .before .before .before .before .before .before .before .before .before .before .before .before .before .before .before .before .before .before .before .pre .0 .2, c .before .before .before .before .before .trace .kept .1 .1 .0),
+        omega (arith, ap (λ (t : State). t .location) q, c .before .before .before .before .before .before .before .before .before .before .before .before .before .before .before .before .before .before .before .before .if2 .left),
+      ),
+      c .before .before .before .before .before .before .before .before .before .before .before .before .before .before .before .before .before .before .before .before .before .before .before .before .before .before .pre .1,
     )
 
 same-length-7 : tie.Need-same-length-7
@@ -128,14 +131,14 @@ returns-6 c =
     let x = c .before .before .before .before .before .before .before .before .before .before .before .before .before .before .before .before .before .before .as-done .result in
     let e : x ≡ asDone (a .state) w = c .before .before .before .before .before .before .before .before .before .before .before .before .before .before .before .before .before .before .as-done .ensures in
     step-traced h (a .deck .now) (a .stop) (c .before .before .before .before .before .before .before .before .before .before .before .before .before .before .before .before .before .before .before .before .before .before .before .before .before .before .before .before .if1 .left) (c .before .before .before .before .before .before .before .before .before .before .before .before .before .before .before .before .before .before .before .before .before .before .before .before .before .before .before .if2 .left) w (sym (c .before .before .before .before .before .before .before .before .before .before .before .before .before .before .before .before .before .before .before .before .before .before .w .given .1) ∙ c .before .before .before .before .before .before .before .before .before .before .before .before .before .before .before .before .before .before .before .before .before .before .before .before .cell .ensures)
-    (sym (c .before .before .before .before .before .before .before .before .before .before .before .before .before .before .before .before .before .before .before .before .order-fits .ensures) ∙ not-false _ (c .before .before .before .before .before .before .before .before .before .before .before .before .before .before .before .before .before .before .before .if3 .left)) (c .before .before .before .before .before .before .before .before .before .before .before .before .before .before .before .before .before .if4 .taken) (omega (arith, c .before .before .before .before .before .before .before .before .before .before .before .before .before .before .before .before .if5 .left, c .before .before .before .before .before .before .before .before .before .before .before .before .before .before .before .before .before .before .before .before .before .before .before .before .before .before .before .before .before .before .before .before .before .pre .2))
+    (sym (c .before .before .before .before .before .before .before .before .before .before .before .before .before .before .before .before .before .before .before .before .order-fits .ensures) ∙ not-false _ (c .before .before .before .before .before .before .before .before .before .before .before .before .before .before .before .before .before .before .before .if3 .left)) (c .before .before .before .before .before .before .before .before .before .before .before .before .before .before .before .before .before .if4 .taken) (omega (arith, c .before .before .before .before .before .before .before .before .before .before .before .before .before .before .before .before .if5 .left, c .before .before .before .before .before .before .before .before .before .before .before .before .before .before .before .before .before .before .before .before .before .before .before .before .before .before .before .before .before .before .before .before .before .pre .0 .2))
     (c .before .before .before .before .before .before .obey .last .0) (c .before .before .before .before .before .before .obey .last .1 .0) (c .before .before .before .before .before .before .obey .last .1 .1 .0) (c .before .before .before .before .before .before .obey .result)
     (subst (λ (y : ℕ). Did drum₀ out₀ (c .before .before .before .before .before .before .obey .last .0) (c .before .before .before .before .before .before .obey .last .1 .0) (c .before .before .before .before .before .before .obey .last .1 .1 .0) (c .before .before .before .before .before .before .obey .result) (obeyed (lent (a .deck .now) (a .stop) (length out₀)) (traceSent m w y) y)) e
     (c .before .before .before .before .before .before .obey .ensures drum₀ out₀ (traceSent m w x) (c .before .before .before .before .before .before .before .before .before .before .before .before .trace .ensures .1 drum₀ out₀ m h)))
 
 obey-requires-2 : tie.Need-obey-requires-2
 obey-requires-2 c κs =
-    (c .before .before .before .before .before .before .before .before .before .before .before .before .before .before .before .before .before .before .before .pre .0, c .before .before .before .before .before .before .before .before .before .before .before .before .before .before .before .before .before .before .before .pre .1, c .before .before .before .before .before .before .before .before .before .before .before .before .before .before .before .before .before .before .before .pre .2, omega (arith, c .before .before .before .before .before .before .before .before .before .before .before .before .before .if2 .left))
+    ((c .before .before .before .before .before .before .before .before .before .before .before .before .before .before .before .before .before .before .before .pre .0 .0, c .before .before .before .before .before .before .before .before .before .before .before .before .before .before .before .before .before .before .before .pre .0 .1, c .before .before .before .before .before .before .before .before .before .before .before .before .before .before .before .before .before .before .before .pre .0 .2, omega (arith, c .before .before .before .before .before .before .before .before .before .before .before .before .before .if2 .left)), c .before .before .before .before .before .before .before .before .before .before .before .before .before .before .before .before .before .before .before .pre .1)
 
 same-length-10 : tie.Need-same-length-10
 same-length-10 c = search needs

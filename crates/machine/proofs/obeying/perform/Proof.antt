@@ -1,10 +1,10 @@
--- `machine::running::perform` meets its contract: each family does what the rules say of it. Assumes nothing.
+-- `machine::obeying::perform` meets its contract: each family does what the rules say of it. Assumes nothing.
 use mathlib.Core.Path.{subst}
 use Rattle.rules.specs.Orders.{performed}
 use Rattle.machine.specs.Suits.{Allowed}
 use borrow.Author.Needs.{needs}
-use Rattle.machine.proofs.running.perform.Statement.{statement}
-use Rattle.machine.proofs.running.perform.Tie as tie
+use Rattle.machine.proofs.obeying.perform.Statement.{statement}
+use Rattle.machine.proofs.obeying.perform.Tie as tie
 
 enum-known-o : tie.Need-enum-known-o
 enum-known-o c = search needs

@@ -1,10 +1,10 @@
--- `machine::running::as_done` meets its contract. Assumes nothing.
+-- `machine::sums::as_done` meets its contract. Assumes nothing.
 use mathlib.Core.Path.{ap}
 use Prim.Native.Nat.{ℕ, _+_}
 use borrow.Author.Tests.{eq-eqb, ne-eqb}
 use borrow.Author.Needs.{needs}
-use Rattle.machine.proofs.running.as_done.Statement.{statement}
-use Rattle.machine.proofs.running.as_done.Tie as tie
+use Rattle.machine.proofs.sums.as_done.Statement.{statement}
+use Rattle.machine.proofs.sums.as_done.Tie as tie
 
 box-word-requires : tie.Need-box-word-requires
 box-word-requires c κs = search needs

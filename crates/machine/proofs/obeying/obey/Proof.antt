@@ -1,4 +1,4 @@
--- `machine::running::obey` meets its contract: the table and the checks of the class are those of the rules, and the operation is done
+-- `machine::obeying::obey` meets its contract: the table and the checks of the class are those of the rules, and the operation is done
 -- by its family. Assumes nothing.
 use mathlib.Core.Path.{sym, _∙_}
 use native.Mathlib.Omega.{arith}
@@ -6,8 +6,8 @@ use Rattle.rules.specs.Words.{aIn, bIn, cIn}
 use Rattle.rules.specs.Running.{codeDone}
 use Rattle.machine.proofs.Orders.{passed, obey-not-built, obey-refused, obey-done}
 use borrow.Author.Needs.{needs}
-use Rattle.machine.proofs.running.obey.Statement.{statement}
-use Rattle.machine.proofs.running.obey.Tie as tie
+use Rattle.machine.proofs.obeying.obey.Statement.{statement}
+use Rattle.machine.proofs.obeying.obey.Tie as tie
 
 look-up-requires : tie.Need-look-up-requires
 look-up-requires c κs = search needs
@@ -35,8 +35,8 @@ enum-told-2 c = search needs
 perform-requires : tie.Need-perform-requires
 perform-requires c κs =
     let a = c .before .before .before .before .before .before .before .before .before .before .before .before .before .before .before .before .args in
-    let r = c .before .before .before .before .before .before .before .before .before .before .before .before .before .before .before .before .pre .0 in (
-      c .before .before .before .before .before .before .before .before .before .before .before .before .before .before .before .before .pre,
+    let r = c .before .before .before .before .before .before .before .before .before .before .before .before .before .before .before .before .pre .0 .0 in (
+      c .before .before .before .before .before .before .before .before .before .before .before .before .before .before .before .before .pre .0,
       (
         omega arith,
         omega arith,

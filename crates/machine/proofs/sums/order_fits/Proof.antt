@@ -1,9 +1,9 @@
--- `machine::running::order_fits` meets its contract. Assumes nothing.
+-- `machine::sums::order_fits` meets its contract. Assumes nothing.
 use Rattle.machine.proofs.Orders.{sums-last}
 use borrow.Author.Tests.{eq-eqb, ne-eqb, le-leb, lt-leb}
 use borrow.Author.Needs.{needs}
-use Rattle.machine.proofs.running.order_fits.Statement.{statement}
-use Rattle.machine.proofs.running.order_fits.Tie as tie
+use Rattle.machine.proofs.sums.order_fits.Statement.{statement}
+use Rattle.machine.proofs.sums.order_fits.Tie as tie
 
 array-read-if2 : tie.Need-array-read-if2
 array-read-if2 c = search needs

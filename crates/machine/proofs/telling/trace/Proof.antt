@@ -1,12 +1,12 @@
--- `machine::running::trace` meets its contract: the six words are read from the cells shown, and the writer is given fields in range.
+-- `machine::telling::trace` meets its contract: the six words are read from the cells shown, and the writer is given fields in range.
 -- Assumes nothing.
 use native.Mathlib.Omega.{arith}
 use Rattle.rules.specs.Words.{bIn}
 use Rattle.machine.proofs.Shown.{word-is}
 use Rattle.machine.proofs.Traces.{trace-sent}
 use borrow.Author.Needs.{needs}
-use Rattle.machine.proofs.running.trace.Statement.{statement}
-use Rattle.machine.proofs.running.trace.Tie as tie
+use Rattle.machine.proofs.telling.trace.Statement.{statement}
+use Rattle.machine.proofs.telling.trace.Tie as tie
 
 box-word-requires : tie.Need-box-word-requires
 box-word-requires c κs = search needs
