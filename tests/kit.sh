@@ -6,13 +6,21 @@ own=$kit/on/$(uname -m)
 toolchain=$own/toolchain
 made=target/tests
 
-# build_c NAME LIBRARY: tests/panel/NAME.c with the static library of a crate, as $made/NAME.
+# build_c NAME LIBRARY [FILE..]: tests/panel/NAME.c, or these files, with the static library of a crate, as $made/NAME.
 build_c() {
-    mkdir -p "$made" &&
+    built=$1 library=$2 objects=''
+    shift 2
+    [ $# -gt 0 ] || set -- "tests/panel/$built.c"
+    mkdir -p "$made" || return 1
+    for file; do
+        object=$made/$built-$(basename "$file" .c).o
+        objects="$objects $object"
         "$toolchain/bin/clang" --target=x86_64-unknown-linux-gnu -ffreestanding -nostdinc -fPIE -O2 -Wall -Wextra -Werror \
-            -I include -I tests/panel/headers -c "tests/panel/$1.c" -o "$made/$1.o" &&
-        "$own/bin/rattle-link" --target x86_64-unknown-linux-gnu --toolchain "$toolchain" -o "$made/$1" \
-            "$made/$1.o" "target/staticlib/lib$2.a"
+            -I include -I tests/panel/headers -I bench -c "$file" -o "$object" || return 1
+    done
+    # shellcheck disable=SC2086
+    "$own/bin/rattle-link" --target x86_64-unknown-linux-gnu --toolchain "$toolchain" -o "$made/$built" $objects \
+        "target/staticlib/lib$library.a"
 }
 
 # run_c NAME [WORDS..]: runs what build_c made.

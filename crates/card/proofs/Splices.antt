@@ -3,11 +3,11 @@
 use mathlib.Core.Path.{_≡_, sym, ap, _∙_}
 use mathlib.Core.List.{List, [], _∷_, _++_, append-assoc, append-nil}
 use Prim.Native.Nat.{ℕ, suc, _+_, _≤_, _<_}
-use native.Mathlib.Nat.{add-zero, zero-add}
+use native.Mathlib.Nat.{le-refl, add-zero, zero-add}
 use native.Mathlib.Numerals.{add-one}
 use native.Mathlib.Omega.{arith}
 use lib.ListN.{length, take, drop, set, length-append, take-append-drop}
-use lib.Seq.{take-at, drop-at, drop-drop, length-take-le, set-split, append-snoc}
+use lib.Seq.{take-at, drop-at, drop-drop, length-take-le, set-split, set-append-left, take-set-lt, take-suc-set, append-snoc}
 use Rattle.rules.specs.Running.{over}
 use Rattle.card.specs.Written.{splice}
 
@@ -40,6 +40,22 @@ splice-more a b s t d e h =
     ap (λ (l : List ℕ). l ++ t ++ drop (b + length t) (p ++ r)) (take-at p r b n)
     ∙ ap (λ (l : List ℕ). p ++ t ++ l) rest
     ∙ ap (λ (l : List ℕ). l ++ drop (a + length (s ++ t)) d) (append-assoc (take a d) s t)
+
+-- a byte right in front of a part t
+pub splice-before : (a b : ℕ) (t d : List ℕ) → suc a + length t ≤ length d → set (splice (suc a) t d) a b ≡ splice a (b ∷ t) d
+unfolding splice
+splice-before a b t d h =
+    let p : List ℕ = take (suc a) d in
+    let r : List ℕ = drop (suc a + length t) d in
+    let n : length p ≡ suc a = length-take-le (suc a) d (omega arith) in
+    let m : length (p ++ t) ≡ suc a + length t = length-append p t ∙ omega arith in
+    let q : set p a b ≡ take a d ++ (b ∷ []) = sym (take-set-lt (suc a) d a b (le-refl (suc a))) ∙ take-suc-set d a b (omega arith) in
+    let e : suc a + length t ≡ a + length (b ∷ t) = omega arith in
+    set-append-left (p ++ t) r a b (omega arith)
+    ∙ ap (λ (l : List ℕ). l ++ r) (set-append-left p t a b (omega arith))
+    ∙ ap (λ (l : List ℕ). l ++ t ++ r) q
+    ∙ ap (λ (l : List ℕ). l ++ r) (append-snoc (take a d) b t)
+    ∙ ap (λ (k : ℕ). take a d ++ (b ∷ t) ++ drop k d) e
 
 pub splice-start : (s d : List ℕ) → splice 0 s d ≡ over s d
 unfolding over splice

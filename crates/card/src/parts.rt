@@ -16,16 +16,17 @@ pub(crate) fn put_byte(out: &mut [u8], a: usize, b: u8)
     out[a] = b;
 }
 
-// The last n digits of x, from place a on.
+// The last n digits of x, from place a on, written from the last back to the first: so each division is by ten.
 pub(crate) fn put_field(out: &mut [u8], a: usize, n: usize, x: u64)
     requires { ⌜ a + n ≤ length (now out) ⌝ }
     ensures { λ _. ⌜ now (out .exit) ≡ splice a (digits n x) (now (out .entry)) ⌝ }
 {
-    let mut i: usize = 0;
-    while i < n {
-        let d = digits::digit(x, n - 1 - i);
-        out[a + i] = b'0' + d as u8;
-        i += 1;
+    let mut y = x;
+    let mut i = n;
+    while 0 < i {
+        i -= 1;
+        out[a + i] = b'0' + (y % 10) as u8;
+        y = y / 10;
     }
 }
 

@@ -1,6 +1,5 @@
-// Powers of ten, and the decimal digits of a number. This is the project's one table of powers of ten.
+// Powers of ten. This is the project's one table of them.
 ghost use mathlib.Core.Path.{_≡_};
-ghost use Prim.Native.Nat.{_/_, _%_, _^_};
 ghost use Rattle.digits.specs.Powers.{powerOf};
 
 const POWERS: [u64; 20] = [
@@ -31,14 +30,4 @@ pub fn power(k: usize) -> u64
     ensures { λ r. ⌜ r ≡ powerOf k ⌝ }
 {
     if k < 20 { POWERS[k] } else { 0 }
-}
-
-// The digit of x that stands at the place k, counted from the last, which is at place 0.
-pub fn digit(x: u64, k: usize) -> u64
-    ensures { λ r. ⌜ r ≡ x / 10 ^ k % 10 ⌝ }
-{
-    if k < 20 {
-        return x / power(k) % 10;
-    }
-    0
 }

@@ -7,7 +7,7 @@ use native.Mathlib.Omega.{arith}
 use lib.Dec.{eqb}
 use lib.ListN.{length, take, drop, length-append}
 use Rattle.rules.specs.Words.{pick, firstDigit, aIn}
-use Rattle.rules.specs.Texts.{bytes}
+use Rattle.rules.specs.Bytes.{bytes}
 use Rattle.rules.specs.Cards.{digits, width, wordIn}
 use Rattle.rules.specs.Codes.{Row, codes, rowOf, codeIn}
 use Rattle.rules.specs.Listing.{aText, orderLine, cellLine, headLine, cellLines, dataLines, firstLine, shownLines, traceLines, stopLine, badLine}

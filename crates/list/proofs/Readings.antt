@@ -7,7 +7,7 @@ use native.Mathlib.Omega.{arith}
 use lib.Dec.{eqb}
 use lib.ListN.{take, drop}
 use Rattle.rules.specs.Words.{pick, firstDigit, aIn, bIn, cIn}
-use Rattle.rules.specs.Texts.{bytes}
+use Rattle.rules.specs.Bytes.{bytes}
 use Rattle.rules.specs.Cards.{digits, wordBytes, stopCard}
 use Rattle.rules.specs.Codes.{codes, rowOf, codeIn}
 use Rattle.rules.specs.Listing.{nameOf, aText, orderLine}

@@ -10,7 +10,7 @@ use lib.Dec.{eqb}
 use lib.ListN.{length, getD, take, drop}
 use lib.Seq.{take-at, drop-at, drop-drop}
 use Rattle.rules.specs.Words.{both}
-use Rattle.rules.specs.Texts.{bytes}
+use Rattle.rules.specs.Bytes.{bytes}
 use Rattle.rules.specs.Codes.{names}
 use Rattle.rules.proofs.Tests.{both-first, both-second}
 

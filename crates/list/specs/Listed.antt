@@ -3,7 +3,7 @@ use Prim.Native.Nat.{ℕ, _≤_, _<_}
 use mathlib.Core.Path.{_≡_}
 use mathlib.Core.List.{List, [], _∷_, _++_}
 use lib.ListN.{getD}
-use Rattle.rules.specs.Texts.{bytes, lineEnd}
+use Rattle.rules.specs.Bytes.{bytes, lineEnd}
 use Rattle.rules.specs.Cards.{wordIn, wordPlace}
 use Rattle.rules.specs.Codes.{names}
 use Rattle.rules.specs.Words.{pick}

@@ -5,7 +5,7 @@ ghost use Prim.Native.Nat.{_+_, _≤_};
 ghost use lib.Dec.{eqb};
 ghost use lib.ListN.{length};
 ghost use Rattle.rules.specs.Words.{pick, firstDigit};
-ghost use Rattle.rules.specs.Texts.{bytes};
+ghost use Rattle.rules.specs.Bytes.{bytes};
 ghost use Rattle.rules.specs.Cards.{stopCard};
 ghost use Rattle.rules.specs.Listing.{orderLine, cellLine, cellShown};
 ghost use Rattle.card.specs.Written.{splice, WroteLine};

@@ -4,6 +4,7 @@ pub mod Stores
 pub mod Loops
 pub mod Tracings
 pub mod Rows
+pub mod Laying
 pub mod ByClass
 pub mod Gathered
 pub mod Punches

@@ -8,11 +8,14 @@ mod going;
 mod loading;
 mod looping;
 mod memory;
+mod obeying;
 mod punching;
 mod reading;
 mod reckoning;
 mod running;
 mod states;
+mod sums;
+mod telling;
 mod tracing;
 
 pub use loading::load;

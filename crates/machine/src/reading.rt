@@ -135,12 +135,12 @@ pub fn read(
 {
     let reader = state.reader;
     let next = state.location + 1;
+    let gone = crate::states::went_to(state, next);
     let j = judge(deck, reader, b, c);
     match j {
         Judged::Fits(end) => {
             store_cards(drum, marks, deck, reader, end);
-            let s = crate::states::read_to(state, end);
-            let t = crate::states::went_to(s, next);
+            let t = crate::states::read_to(gone, end);
             Stepped {
                 outcome: Outcome::GoesOn,
                 at,

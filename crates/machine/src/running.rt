@@ -1,237 +1,15 @@
-// One order from its cell on, with the loop box and its trace card; and a whole run.
+// A whole run: order after order, up to the budget.
 ghost use mathlib.Core.Path.{_≡_};
-ghost use mathlib.Core.List.{List};
-ghost use Prim.Native.Nat.{ℕ, _+_, _<_, _≤_};
-ghost use lib.ListN.{length};
-ghost use Rattle.rules.specs.Machine.{numbered};
-ghost use Rattle.rules.specs.Orders.{performed};
+ghost use Prim.Native.Nat.{_≤_};
 ghost use Rattle.rules.specs.Numbers.{mayGoOn, completed};
-ghost use Rattle.rules.specs.Running.{boxWord, wordOfA, orderFits, asDone, traceSent, obeyed, begun, inputs, runFrom, ran};
-ghost use Rattle.rules.specs.Running.{step as stepOf};
-ghost use Rattle.rules.specs.declared.Cell.{Cell as CellT};
-ghost use Rattle.machine.specs.Lent.{Ready, Steady, Holds, Shows, Sends, Does, Ended, RunRight, lent};
-ghost use Rattle.machine.specs.Suits.{Allowed};
+ghost use Rattle.rules.specs.Running.{begun, inputs, runFrom, ran};
+ghost use Rattle.machine.specs.Lent.{Shows, Ended, RunRight};
 use crate::Ran;
-use crate::Stepped;
 use rules::Bar;
-use rules::Built;
-use rules::Cell;
-use rules::Checked;
 use rules::Deck;
 use rules::Ending;
-use rules::Operation;
 use rules::Outcome;
-use rules::Refusal;
 use rules::State;
-
-// The loop box as a word: +0 and three counts.
-fn box_word(state: State) -> u64
-    requires { ⌜ Steady (state .problem) (state .counts) ⌝ }
-    ensures { λ r. ⌜ (r ≡ boxWord state) × (r ≤ 999999999) ⌝ }
-{
-    let counts = state.counts;
-    counts[0] * 1_000_000 + counts[1] * 1000 + counts[2] * 1
-}
-
-// Whether no sum of an address and its count is above 999; an order with plus has no sums.
-fn order_fits(state: State, w: u64) -> bool
-    requires { ⌜ Steady (state .problem) (state .counts) ⌝ }
-    ensures { λ r. ⌜ r ≡ orderFits state w ⌝ }
-{
-    if w / 10_000_000_000 == 1 {
-        let counts = state.counts;
-        if 999 < w % 10_000_000_000 / 1_000_000 % 1000 + counts[0] {
-            return false;
-        }
-        if 999 < w % 10_000_000_000 / 1000 % 1000 + counts[1] {
-            return false;
-        }
-        return w % 10_000_000_000 / 1 % 1000 + counts[2] <= 999;
-    }
-    true
-}
-
-// The order as it is done.
-fn as_done(state: State, w: u64) -> u64
-    requires { ⌜ Steady (state .problem) (state .counts) × (w ≤ 19999999999) ⌝ }
-    ensures { λ r. ⌜ r ≡ asDone state w ⌝ }
-{
-    if w / 10_000_000_000 == 1 {
-        return w + box_word(state);
-    }
-    w
-}
-
-// What a trace card shows of A: its word, where neither O1 nor A is 0.
-fn word_of_a(drum: &[u64], marks: &[u8], x: u64) -> u64
-    requires { ⌜ Ready (now drum) (now marks) ⌝ }
-    ensures { λ r. ⌜ ((drum₀ : List ℕ) (v : List CellT) → Holds drum₀ (now (drum .entry)) (now (marks .entry)) v → r ≡ wordOfA v x) ⌝ }
-{
-    let a = x % 10_000_000_000 / 1_000_000 % 1000;
-    if 0 < x % 10_000_000_000 / 1_000_000_000 {
-        if 0 < a {
-            return crate::memory::word(drum, marks, a as usize);
-        }
-    }
-    0
-}
-
-// The trace card of the order w, done as x.
-fn trace(
-    drum: &[u64],
-    marks: &[u8],
-    out: &mut [u8],
-    at: usize,
-    state: State,
-    w: u64,
-    x: u64,
-) -> State
-    requires { ⌜ Ready (now drum) (now marks) × Steady (state .problem) (state .counts) ⌝ }
-    requires { ⌜ (1 ≤ state .location) × (state .location ≤ 999) × (w ≤ 19999999999) × (x ≤ 19999999999) × (at + 77 ≤ length (now out)) ⌝ }
-    ensures { λ r. ⌜ (r ≡ numbered state) × Sends (now (drum .entry)) (now (marks .entry)) (now (out .entry)) at state
-        (now (out .exit)) (at + 77) r (λ m. traceSent m w x) ⌝ }
-{
-    let b = (x % 10_000_000_000 / 1000 % 1000) as usize;
-    let y = box_word(state);
-    let of_a = word_of_a(drum, marks, x);
-    let of_b = crate::memory::word(drum, marks, b);
-    let previous = crate::memory::word(drum, marks, 0);
-    let s = crate::states::numbered_next(state);
-    let words = [w, x, y, of_a, of_b, previous];
-    let l = s.location;
-    card::write_trace(&mut out[at..], s.counter, l, words, s.problem);
-    s
-}
-
-// An operation, once the checks of its class have passed.
-fn perform(
-    drum: &mut [u64],
-    marks: &mut [u8],
-    out: &mut [u8],
-    at: usize,
-    state: State,
-    stop: bool,
-    o: Operation,
-    a: usize,
-    b: usize,
-    c: usize,
-    deck: &[u8],
-) -> Stepped
-    requires { ⌜ Ready (now drum) (now marks) × Steady (state .problem) (state .counts) × (at ≤ length (now out)) × (state .location < 1000) ⌝ }
-    requires { ⌜ (a < 1000) × (b < 1000) × (c < 1000) × Allowed o b c ⌝ }
-    ensures { λ r. ⌜ Does (now (drum .entry)) (now (marks .entry)) (now (out .entry)) at state
-        (now (drum .exit)) (now (marks .exit)) (now (out .exit)) r
-        (λ room m. performed (lent (now (deck .entry)) stop room) m o a b c) ⌝ }
-{
-    match o {
-        Operation::Reckon(k) => crate::reckoning::reckon_at(drum, marks, at, state, k, a, b, c),
-        Operation::Move => crate::reckoning::move_word(drum, marks, at, state, b, c),
-        Operation::Go(g) => crate::going::go(drum, marks, at, state, stop, g, b, c),
-        Operation::Loop(x, y, z) => crate::looping::go_round(at, state, x, y, z, b, c),
-        Operation::Change(k, x) => crate::changing::change(drum, marks, at, state, k, x, b, c),
-        Operation::Read => crate::reading::read(drum, marks, at, state, b, c, deck),
-        Operation::Pch => crate::punching::punch(drum, marks, out, at, state, b, c),
-        Operation::Trace(k) => crate::tracing::retrace(drum, marks, at, state, k),
-    }
-}
-
-// The order w as it is done: its code, the checks of its class, itself.
-fn obey(
-    drum: &mut [u64],
-    marks: &mut [u8],
-    out: &mut [u8],
-    at: usize,
-    state: State,
-    stop: bool,
-    w: u64,
-    deck: &[u8],
-) -> Stepped
-    requires { ⌜ Ready (now drum) (now marks) × Steady (state .problem) (state .counts) × (at ≤ length (now out)) × (state .location < 1000) ⌝ }
-    ensures { λ r. ⌜ Does (now (drum .entry)) (now (marks .entry)) (now (out .entry)) at state
-        (now (drum .exit)) (now (marks .exit)) (now (out .exit)) r
-        (λ room m. obeyed (lent (now (deck .entry)) stop room) m w) ⌝ }
-{
-    let a = (w % 10_000_000_000 / 1_000_000 % 1000) as usize;
-    let b = (w % 10_000_000_000 / 1000 % 1000) as usize;
-    let c = (w % 10_000_000_000 / 1 % 1000) as usize;
-    let Built::As(o, k) = crate::codes::look_up(state, w) else {
-        return Stepped {
-            outcome: Outcome::Undone(Refusal::NotBuilt),
-            at,
-            state,
-        };
-    };
-    let found = crate::checks::check(drum, marks, k, a, b, c);
-    match found {
-        Checked::Refuses(r) => Stepped {
-            outcome: Outcome::Undone(r),
-            at,
-            state,
-        },
-        Checked::Passes => perform(drum, marks, out, at, state, stop, o, a, b, c, deck),
-    }
-}
-
-// One order: its location, its cell, its sums, its trace card, itself.
-fn step(
-    drum: &mut [u64],
-    marks: &mut [u8],
-    out: &mut [u8],
-    at: usize,
-    state: State,
-    stop: bool,
-    deck: &[u8],
-) -> Stepped
-    requires { ⌜ Ready (now drum) (now marks) × Steady (state .problem) (state .counts) × (at ≤ length (now out)) ⌝ }
-    ensures { λ r. ⌜ Does (now (drum .entry)) (now (marks .entry)) (now (out .entry)) at state
-        (now (drum .exit)) (now (marks .exit)) (now (out .exit)) r
-        (λ room m. stepOf (lent (now (deck .entry)) stop room) m) ⌝ }
-{
-    let l = state.location;
-    if l == 0 {
-        return Stepped {
-            outcome: Outcome::Undone(Refusal::BadAddress),
-            at,
-            state,
-        };
-    }
-    if 999 < l {
-        return Stepped {
-            outcome: Outcome::Undone(Refusal::BadAddress),
-            at,
-            state,
-        };
-    }
-    let Cell::Owned(w) = crate::memory::cell(drum, marks, l) else {
-        return Stepped {
-            outcome: Outcome::Undone(Refusal::Unmarked),
-            at,
-            state,
-        };
-    };
-    let fits = order_fits(state, w);
-    if !fits {
-        return Stepped {
-            outcome: Outcome::Undone(Refusal::BadAddress),
-            at,
-            state,
-        };
-    }
-    let x = as_done(state, w);
-    let tracing = state.tracing;
-    if tracing == 1 {
-        if out.len() - at < 77 {
-            return Stepped {
-                outcome: Outcome::Undone(Refusal::NoRoom),
-                at,
-                state,
-            };
-        }
-        let s = trace(drum, marks, out, at, state, w, x);
-        return obey(drum, marks, out, at + 77, s, stop, x, deck);
-    }
-    obey(drum, marks, out, at, state, stop, x, deck)
-}
 
 // Whether the next order may be begun.
 fn may_go_on(o: Outcome) -> bool
@@ -274,8 +52,9 @@ fn run_on(
     let mut count: u64 = 0;
     let mut at: usize = 0;
     let mut st = state;
+    let index = crate::codes::index();
     while count < budget {
-        let r = step(drum, marks, out, at, st, stop, deck);
+        let r = crate::obeying::step(drum, marks, out, at, st, stop, deck, &index);
         let s = r.state;
         let o = r.outcome;
         at = r.at;

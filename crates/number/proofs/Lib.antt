@@ -1,3 +1,4 @@
+mod Operands
 mod Units
 mod Newton
 mod Aligning

@@ -1,35 +1,22 @@
--- Rounding in 64 bits: a loop that finds the unit has found the definition's answer. Assumes nothing.
+-- Rounding in 64 bits: whoever has found the unit has found the definition's answer. Assumes nothing.
 use Prim.Native.Nat.{ℕ, _+_, _*_, _/_, _^_, _≤_, _<_}
-use mathlib.Core.Path.{_≡_, sym, ap, subst, _∙_}
-use native.Mathlib.Nat.{lt-of-not-le, pow-suc}
+use mathlib.Core.Path.{_≡_, refl, sym, ap, subst, _∙_}
+use native.Mathlib.Nat.{pow-suc, div-one}
 use native.Mathlib.Numerals.{add-one}
-use native.Mathlib.Decide.{decLe}
 use native.Mathlib.Omega.{arith}
 use Rattle.rules.specs.Rounding.{single, nearest, placed, settled}
 use Rattle.rules.specs.Rounded.{Rounded}
-use Rattle.rules.proofs.Nearest.{ten-rises}
 use Rattle.rules.proofs.Rounded.{unit-rounded}
 use Rattle.rules.proofs.Rounding.{settled-is}
 
 -- the unit u is the power e of ten, and in units a tenth as large there would be more than eight digits
 pub record Unit (h u e : ℕ) : Type 0 where
   pub power : u ≡ 10 ^ e
-  pub some : 0 < u
   pub full : 2 * (10 ^ 8 * u) ≤ 10 * h + u
 
 pub next : (h u e : ℕ) → Unit h u e → 200000000 * u ≤ h + u → Unit h (u * 10) (e + 1)
 next h u e w l =
-    record { power = ap (λ (v : ℕ). v * 10) (w .power) ∙ sym (pow-suc 10 e) ∙ ap (λ (v : ℕ). 10 ^ v) (sym (add-one e)); some = omega (arith, w .some); full = omega arith }
-
--- few halves have a low place
-pub low : (h u e : ℕ) → h ≤ 10 ^ 18 → Unit h u e → e ≤ 10
-low h u e few w = either (decLe e 10)
-  where
-    either : Dec (e ≤ 10) → e ≤ 10
-    either (yes l) = l
-    either (no g) =
-        let l : 10 ^ 11 ≤ 10 ^ e = ten-rises (lt-of-not-le g) in
-        absurd (omega (arith, w .power, w .full))
+    record { power = ap (λ (v : ℕ). v * 10) (w .power) ∙ sym (pow-suc 10 e) ∙ ap (λ (v : ℕ). 10 ^ v) (sym (add-one e)); full = omega arith }
 
 module _ (h u e : ℕ) (w : Unit h u e) (few : h + u < 200000000 * u) where
   rounded : Rounded 8 h (10 ^ e) ((h / u + 1) / 2)
@@ -44,3 +31,11 @@ module _ (h u e : ℕ) (w : Unit h u e) (few : h + u < 200000000 * u) where
 
   pub settles : (s j x : ℕ) → x / 10 ^ j ≡ h → settled single s x ≡ placed single s ((h / u + 1) / 2) (j + e)
   settles s j x i = settled-is single s x j e ((h / u + 1) / 2) (subst (λ (v : ℕ). Rounded 8 v (10 ^ e) ((h / u + 1) / 2)) (sym i) rounded)
+
+-- halves that make eight digits as they are
+pub eight-already : (h s j x : ℕ) → 20000000 ≤ h → h + 1 < 200000000 → x / 10 ^ j ≡ h → settled single s x ≡ placed single s ((h + 1) / 2) j
+eight-already h s j x least most i =
+    let here : j + 0 ≡ j = omega arith in
+    settles h 1 0 (record { power = refl; full = omega arith }) (omega arith) s j x i
+    ∙ ap (λ (v : ℕ). placed single s ((v + 1) / 2) (j + 0)) (div-one h)
+    ∙ ap (placed single s ((h + 1) / 2)) here

@@ -17,7 +17,7 @@ pub(crate) fn times(s: u64, a: u64, b: u64) -> Reckoned
     if p == 0 {
         return Reckoned::Result(0);
     }
-    settle(s, 2 * p, 7, a % 100 + b % 100 + 43)
+    settle(s, 2 * p, 7, 10_000_000, a % 100 + b % 100 + 43)
 }
 
 // The quotient of two numbers' digits, with the sign s. Cut below the ninth digit it still rounds as the exact one.
@@ -30,5 +30,5 @@ pub(crate) fn over(s: u64, a: u64, b: u64) -> Reckoned
     }
     let m = a % 10_000_000_000 / 100;
     let n = b % 10_000_000_000 / 100;
-    settle(s, 2 * (m * 100_000_000) / n, 0, a % 100 + 149 - b % 100)
+    settle(s, 2 * (m * 100_000_000) / n, 0, 1, a % 100 + 149 - b % 100)
 }

@@ -20,7 +20,7 @@ use Rattle.rules.specs.declared.State.{State}
 use Rattle.machine.specs.Lent.{LoadRight, RunRight}
 use Rattle.machine.specs.declared.Loaded.{Loaded}
 use Rattle.machine.specs.declared.Ran.{Ran}
-use Rattle.panel.specs.States.{stateIn, numbersOf}
+use Rattle.rules.specs.States.{stateIn, numbersOf}
 use Rattle.panel.specs.Calls.{isOn, isState, barOf, barred, barIn, loadCalled, loadingTold, LoadTold, runCalled, endingTold, RunTold}
 use Rattle.panel.specs.declared.Place.{Place}
 use Rattle.panel.specs.declared.Ended.{Ended}

@@ -20,9 +20,9 @@ use Rattle.rules.specs.declared.Loading.the-variants.{Loaded, NotLoaded}
 use Rattle.rules.specs.declared.Ending.{Ending}
 use Rattle.rules.specs.declared.Ending.the-variants.{Ran, NotRun}
 use Rattle.rules.specs.declared.State.{State}
-use Rattle.panel.specs.States.{stateIn, numbersOf}
+use Rattle.rules.specs.States.{stateIn, numbersOf}
 use Rattle.panel.specs.Calls.{isOn, isState, barred, rowAfter, loadCalled, runCalled}
-use Rattle.panel.proofs.Rows.{kept}
+use Rattle.rules.proofs.States.{kept}
 
 -- the numbers of a state that was only read
 same-row : (row : List ℕ) → rowAfter row (stateIn row) ≡ row

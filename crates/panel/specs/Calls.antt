@@ -20,7 +20,7 @@ use Rattle.rules.specs.declared.Loading.{Loading}
 use Rattle.rules.specs.declared.Ending.{Ending}
 use Rattle.rules.specs.declared.Ending.the-variants.{Ran, NotRun}
 use Rattle.rules.specs.declared.State.{State}
-use Rattle.panel.specs.States.{stateIn, numbersOf}
+use Rattle.rules.specs.States.{stateIn, numbersOf}
 use Rattle.panel.specs.declared.Place.{Place}
 use Rattle.panel.specs.declared.Ended.{Ended}
 

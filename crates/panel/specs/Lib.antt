@@ -1,3 +1,2 @@
 pub mod Told
-pub mod States
 pub mod Calls

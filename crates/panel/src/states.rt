@@ -2,7 +2,7 @@
 // and tracing.
 ghost use mathlib.Core.Path.{_≡_};
 ghost use lib.ListN.{length};
-ghost use Rattle.panel.specs.States.{stateIn, numbersOf};
+ghost use Rattle.rules.specs.States.{stateIn, numbersOf};
 use rules::State;
 
 // The state that nine numbers are.

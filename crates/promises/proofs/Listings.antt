@@ -1,6 +1,6 @@
 -- The listings, computed on the definitions. Assumes nothing.
 use mathlib.Core.Path.{refl}
-use Rattle.rules.specs.Texts.{bytes}
+use Rattle.rules.specs.Bytes.{bytes}
 use Rattle.rules.specs.Cards
 use Rattle.rules.specs.Codes
 use Rattle.rules.specs.Listing

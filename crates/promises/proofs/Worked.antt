@@ -1,7 +1,7 @@
 -- The worked sessions, computed on the definitions. Assumes nothing.
 use mathlib.Core.Path.{refl}
 use Rattle.rules.specs.Words
-use Rattle.rules.specs.Texts.{bytes}
+use Rattle.rules.specs.Bytes.{bytes}
 use Rattle.rules.specs.Rounding
 use Rattle.rules.specs.Arithmetic
 use Rattle.rules.specs.Drum

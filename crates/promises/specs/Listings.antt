@@ -4,7 +4,7 @@ use Prim.Native.Nat.{ℕ}
 use Prim.Native.String.{String}
 use mathlib.Core.Path.{_≡_}
 use mathlib.Core.List.{List, [], _∷_, _++_}
-use Rattle.rules.specs.Texts.{bytes, lineEnd}
+use Rattle.rules.specs.Bytes.{bytes, lineEnd}
 use Rattle.rules.specs.Listing.{listing}
 use Rattle.promises.specs.Session.{deck}
 

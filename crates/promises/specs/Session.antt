@@ -5,7 +5,7 @@ use mathlib.Core.Path.{_≡_}
 use mathlib.Core.List.{List, [], _∷_}
 use mathlib.Core.Bool.{false}
 use lib.ListN.{replicate, getD}
-use Rattle.rules.specs.Texts.{bytes}
+use Rattle.rules.specs.Bytes.{bytes}
 use Rattle.rules.specs.Running.{RunResult, ran}
 use Rattle.rules.specs.Loads.{LoadResult, loaded}
 use Rattle.rules.specs.Sheet.{sheet}

@@ -14,3 +14,6 @@ pub mod Fields
 pub mod Dues
 pub mod CardTrips
 pub mod Results
+pub mod States
+pub mod Files
+pub mod Texts

@@ -4,7 +4,7 @@ use Prim.Native.Nat.{ℕ, zero, suc, _+_, _-_, _*_}
 use mathlib.Core.List.{List, [], _∷_}
 use mathlib.Core.Bool.{Bool, true, false}
 use lib.Dec.{eqb, leb, ltb}
-use Rattle.rules.specs.Texts.{bytes}
+use Rattle.rules.specs.Bytes.{bytes}
 use Rattle.rules.specs.Words.{pick, both, aIn, firstDigit, isNumber}
 use Rattle.rules.specs.Drum.{cellAt, isOwned, wordAt}
 use Rattle.rules.specs.declared.Cell.{Cell}

@@ -1,5 +1,5 @@
 pub mod Words
-pub mod Texts
+pub mod Bytes
 pub mod Rounding
 pub mod Rounded
 pub mod Numbers
@@ -14,3 +14,6 @@ pub mod Running
 pub mod Loads
 pub mod Sheet
 pub mod Listing
+pub mod States
+pub mod Files
+pub mod Texts

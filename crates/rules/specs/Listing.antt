@@ -6,7 +6,7 @@ use mathlib.Core.Bool.{Bool}
 use lib.Dec.{eqb, leb}
 use lib.ListN.{length, getD, take, drop}
 use Rattle.rules.specs.Words.{pick, both, isWord, firstDigit, aIn, bIn, cIn}
-use Rattle.rules.specs.Texts.{bytes, lineEnd}
+use Rattle.rules.specs.Bytes.{bytes, lineEnd}
 use Rattle.rules.specs.Cards.{traceKind, stopKind, digits, wordBytes, width, isSign, wordIn, wordPlace, dataSize, firstSize, badFrom, cardOf}
 use Rattle.rules.specs.Codes.{codes, names, rowOf, codeIn}
 use Rattle.rules.specs.declared.Card.{Card}

@@ -5,8 +5,10 @@ mod decks;
 mod files;
 mod model;
 mod numbers;
+mod recorded;
 mod self_test;
 mod sessions;
+mod speed;
 mod verdict;
 
 use std::process::ExitCode;
@@ -21,7 +23,9 @@ usage: second numbers SEED COUNT FILE             write cases
        second judge-numbers SEED COUNT ANSWERS    compare answers with the model's
        second judge-decks SEED COUNT ANSWERS
        second judge-sessions SEED COUNT ANSWERS
-       second self COUNT SEED                     all of these with the model alone";
+       second session FILE [traced] [stop] [budget=N]   load a deck on an empty drum and run it
+       second speed FILE plain|traced             orders a second on a deck that goes round
+       second self COUNT SEED                     all but session with the model alone";
 
 fn main() -> ExitCode {
     let arguments: Vec<String> = std::env::args().skip(1).collect();
@@ -39,6 +43,8 @@ fn main() -> ExitCode {
 /// Does what the arguments ask; whether all is well, or none for a call that is not understood.
 fn run(arguments: &[&str]) -> Option<bool> {
     match *arguments {
+        ["session", file, ref words @ ..] => recorded::session(file, words),
+        ["speed", file, mode] => speed::orders(file, mode),
         ["self", count, seed] => Some(self_test::all(count.parse().ok()?, seed.parse().ok()?)),
         [command, cases, out] => answer(command, cases, out),
         [command, seed, count, file] => {

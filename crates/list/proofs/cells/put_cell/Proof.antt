@@ -4,7 +4,7 @@ use mathlib.Core.List.{List, _++_}
 use Prim.Native.Nat.{ℕ, _+_}
 use native.Mathlib.Omega.{arith}
 use lib.ListN.{take, drop}
-use Rattle.rules.specs.Texts.{bytes}
+use Rattle.rules.specs.Bytes.{bytes}
 use Rattle.card.specs.Written.{splice}
 use Rattle.rules.specs.Cards.{digits}
 use Rattle.rules.specs.Listing.{orderLine, cellLine}

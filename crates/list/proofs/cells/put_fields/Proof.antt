@@ -4,7 +4,7 @@ use mathlib.Core.List.{[], _∷_, _++_}
 use Prim.Native.Nat.{_+_}
 use native.Mathlib.Omega.{arith}
 use lib.ListN.{length, getD, take, drop}
-use Rattle.rules.specs.Texts.{bytes}
+use Rattle.rules.specs.Bytes.{bytes}
 use Rattle.rules.specs.Codes.{names}
 use Rattle.list.proofs.Joins.{put-begin, put-more, put-both, put-piece, length-piece}
 use Rattle.list.proofs.Tables.{name-ten}

@@ -4,7 +4,7 @@ use mathlib.Core.List.{[], _∷_, _++_}
 use Prim.Native.Nat.{_+_}
 use native.Mathlib.Omega.{arith}
 use lib.ListN.{take, drop}
-use Rattle.rules.specs.Texts.{bytes}
+use Rattle.rules.specs.Bytes.{bytes}
 use Rattle.list.proofs.Joins.{put-begin, put-more, length-piece}
 use borrow.Author.Needs.{needs}
 use Rattle.list.proofs.places.put_place.Statement.{statement}

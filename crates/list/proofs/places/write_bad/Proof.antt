@@ -3,7 +3,7 @@ use mathlib.Core.List.{List, [], _∷_, _++_}
 use mathlib.Core.Path.{ap, _∙_}
 use Prim.Native.Nat.{ℕ, _+_}
 use native.Mathlib.Omega.{arith}
-use Rattle.rules.specs.Texts.{bytes}
+use Rattle.rules.specs.Bytes.{bytes}
 use Rattle.rules.specs.Listing.{badLine}
 use Rattle.card.specs.Written.{splice}
 use Rattle.card.proofs.Writes.{no-line}

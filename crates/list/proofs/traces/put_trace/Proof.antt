@@ -3,7 +3,7 @@ use mathlib.Core.Path.{refl, sym, ap₂, subst, _∙_}
 use mathlib.Core.List.{_++_}
 use Prim.Native.Nat.{ℕ, _≤_}
 use native.Mathlib.Omega.{arith}
-use Rattle.rules.specs.Texts.{bytes}
+use Rattle.rules.specs.Bytes.{bytes}
 use Rattle.card.specs.Written.{splice}
 use Rattle.rules.specs.Listing.{headLine, orderLine, shownLines, traceLines}
 use Rattle.list.proofs.Joins.{put-begin, put-more}

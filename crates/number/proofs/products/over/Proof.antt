@@ -1,8 +1,8 @@
 -- `number::products::over` meets its contract: a quotient cut at its ninth digit or below has the halves that rounding asks for.
 -- Assumes nothing.
 use Prim.Native.Nat.{ℕ, _+_, _*_, _^_}
-use mathlib.Core.Path.{_≡_, sym, ap, _∙_}
-use native.Mathlib.Nat.{div-le-self, zero-mul}
+use mathlib.Core.Path.{_≡_, refl, sym, ap, _∙_}
+use native.Mathlib.Nat.{zero-mul}
 use native.Mathlib.Omega.{arith}
 use Rattle.rules.specs.Words.{leadingIn, exponentIn}
 use Rattle.rules.specs.Rounding.{single, quotientOf}
@@ -10,7 +10,7 @@ use Rattle.rules.specs.Arithmetic.{wordOf}
 use Rattle.rules.proofs.Fractions.{none-halves}
 use Rattle.rules.proofs.Rounding.{settled-none}
 use Rattle.rules.proofs.Words.{Full, number-full}
-use Rattle.number.proofs.Sizes.{quotient-least, quotient-is}
+use Rattle.number.proofs.Sizes.{quotient-least, quotient-most, quotient-is}
 use borrow.Author.Needs.{needs}
 use Rattle.number.proofs.products.over.Statement.{statement}
 use Rattle.number.proofs.products.over.Tie as tie
@@ -49,10 +49,11 @@ settle-requires c κs =
     let n : ℕ = leadingIn (a .b) in
     record {
       sign = p .0;
-      few = omega (arith, div-le-self (2 * (m * 100000000)) n);
+      unit = refl;
       start = omega arith;
       place = omega arith;
       full = omega (arith, quotient-least m n (f .leading) (divisor c .leading) (omega arith));
+      few = omega (arith, quotient-most m n (omega arith) (divisor c .leading));
     }
 
 returns-2 : tie.Need-returns-2

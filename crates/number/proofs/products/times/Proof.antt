@@ -1,6 +1,6 @@
 -- `number::products::times` meets its contract: the product of two times eight digits is exact in 64 bits. Assumes nothing.
 use Prim.Native.Nat.{_+_, _*_, _≤_}
-use mathlib.Core.Path.{sym}
+use mathlib.Core.Path.{refl, sym}
 use native.Mathlib.Omega.{arith}
 use Rattle.rules.specs.Words.{leadingIn, exponentIn}
 use Rattle.rules.specs.Rounding.{productOf}
@@ -36,7 +36,14 @@ settle-requires c κs =
     let p = c .before .pre in
     let l : 100000000000000 ≤ leadingIn (a .a) * leadingIn (a .b) =
     product-least (leadingIn (a .a)) (leadingIn (a .b)) (c .if1 .left) (number-leading (a .a) (p .1)) (number-leading (a .b) (p .2)) in
-    record { sign = p .0; few = omega (arith, product-most (a .a) (a .b)); start = omega arith; place = omega arith; full = omega arith }
+    record {
+      sign = p .0;
+      unit = refl;
+      start = omega arith;
+      place = omega arith;
+      full = omega arith;
+      few = omega (arith, product-most (a .a) (a .b));
+    }
 
 returns-2 : tie.Need-returns-2
 unfolding productOf

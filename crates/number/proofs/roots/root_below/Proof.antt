@@ -1,7 +1,8 @@
 -- `number::roots::root_below` meets its contract: no guess is below the root, and one whose square is too large gives a smaller one.
 -- Assumes nothing.
-use Prim.Native.Nat.{_+_, _*_, _≤_, _<_}
-use native.Mathlib.Nat.{mul-le-mul, div-le-self}
+use Prim.Native.Nat.{ℕ, _+_, _*_, _≤_, _<_}
+use mathlib.Core.Path.{sym, subst}
+use native.Mathlib.Nat.{mul-le-mul}
 use native.Mathlib.Omega.{arith}
 use Rattle.number.proofs.Newton.{not-below, above-zero, smaller}
 use Rattle.number.proofs.roots.root_below.Statement.{statement}
@@ -13,29 +14,29 @@ Inv-loop n r₀ r = (n < (r + 1) * (r + 1)) × (r ≤ 250000000)
 abbrev μ-loop : tie.MeasureT-loop
 μ-loop n r₀ r = r
 
-add-r : tie.Need-add-r Inv-loop μ-loop
-add-r c = omega arith
+near-root-requires : tie.Need-near-root-requires Inv-loop μ-loop
+near-root-requires c κs = c .pre
 
 loop-holds : tie.Need-loop-holds Inv-loop μ-loop
-loop-holds c = (not-below (c .args .n) 100000000 (omega arith), omega arith)
+loop-holds c = c .near-root .ensures
 
 mul-loop : tie.Need-mul-loop Inv-loop μ-loop
 mul-loop c = omega (arith, mul-le-mul (c .loop .inv .1) (c .loop .inv .1))
 
-div-r : tie.Need-div-r Inv-loop μ-loop
-div-r c = above-zero (c .before .before .args .n) (c .before .loop .r) (c .loop-test .taken)
-
-add-r-2 : tie.Need-add-r-2 Inv-loop μ-loop
-add-r-2 c = omega (arith, div-le-self (c .before .before .args .n) (c .before .loop .r))
+step-requires : tie.Need-step-requires Inv-loop μ-loop
+step-requires c κs = (c .before .before .before .pre, above-zero (c .before .before .before .args .n) (c .before .loop .r) (c .loop-test .taken), c .before .loop .inv .1)
 
 loop-less : tie.Need-loop-less Inv-loop μ-loop
-loop-less c = smaller (c .before .before .args .n) (c .before .loop .r) (c .loop-test .taken)
+loop-less c = omega (arith, c .step .ensures, smaller (c .before .before .before .before .args .n) (c .before .before .loop .r) (c .before .loop-test .taken))
 
 loop-again : tie.Need-loop-again Inv-loop μ-loop
 loop-again c =
-    let n = c .before .before .args .n in
-    let r = c .before .loop .r in
-    (not-below n r (above-zero n r (c .loop-test .taken)), omega (arith, smaller n r (c .loop-test .taken)))
+    let n = c .before .before .before .before .args .n in
+    let r = c .before .before .loop .r in
+    let t = c .before .loop-test .taken in (
+      subst (λ (g : ℕ). n < (g + 1) * (g + 1)) (sym (c .step .ensures)) (not-below n r (above-zero n r t)),
+      omega (arith, c .step .ensures, smaller n r t, c .before .before .loop .inv .1),
+    )
 
 returns : tie.Need-returns Inv-loop μ-loop
 returns c = record { reached = c .loop-test .left; notPassed = c .before .loop .inv .0 }
@@ -43,4 +44,13 @@ returns c = record { reached = c .loop-test .left; notPassed = c .before .loop .
 pub root-below-spec : {M : Type 1} → statement M
 root-below-spec =
     tie.close
-    (tie.spec Inv-loop μ-loop add-r loop-holds mul-loop div-r add-r-2 loop-less loop-again returns)
+    (tie.spec
+    Inv-loop
+    μ-loop
+    near-root-requires
+    loop-holds
+    mul-loop
+    step-requires
+    loop-less
+    loop-again
+    returns)

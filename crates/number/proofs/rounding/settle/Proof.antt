@@ -1,92 +1,90 @@
--- `number::rounding::settle` meets its contract: the loop goes up from a unit of which there are too many, so it ends at the one that is right.
--- Assumes nothing.
-use Prim.Native.Nat.{_-_, _^_}
-use mathlib.Core.Path.{_≡_, sym, ap, _∙_}
+-- `number::rounding::settle` meets its contract: of two units the smaller that leaves eight digits is the right one. Assumes nothing.
+use Prim.Native.Nat.{_*_, _+_, _≤_}
+use mathlib.Core.Path.{sym, ap, _∙_}
 use native.Mathlib.Nat.{div-le-self}
 use native.Mathlib.Omega.{arith}
-use borrow.Author.Needs.{needs}
 use Rattle.rules.specs.Arithmetic.{wordOf}
-use Rattle.rules.proofs.Nearest.{ten-above}
-use Rattle.digits.proofs.Powers.{in-table}
-use Rattle.number.proofs.Units.{Unit, next, low, eight-digits, settles}
+use Rattle.rules.proofs.Nearest.{ten-rises}
+use Rattle.number.proofs.Units.{Unit, next, eight-digits, settles}
+use borrow.Author.Needs.{needs}
 use Rattle.number.proofs.rounding.settle.Statement.{statement}
 use Rattle.number.proofs.rounding.settle.Tie as tie
 
-abbrev Inv-loop : tie.InvT-loop
-Inv-loop s h k j u₀ e₀ u e = Unit h u e
+low : (c : tie.Start) → c .args .u ≤ 100000000
+low c = omega (arith, c .pre .unit, ten-rises (c .pre .start))
 
-abbrev μ-loop : tie.MeasureT-loop
-μ-loop s h k j u₀ e₀ u e = h - u
+unit : (c : tie.Start) → Unit (c .args .h) (c .args .u) (c .args .k)
+unit c = record { power = c .pre .unit; full = c .pre .full }
 
-power-requires : tie.Need-power-requires Inv-loop μ-loop
-power-requires c κs = search needs
+mul-if1 : tie.Need-mul-if1
+mul-if1 c = omega (arith, low (c))
 
-loop-holds : tie.Need-loop-holds Inv-loop μ-loop
-loop-holds c =
-    let k = c .before .args .k in
-    let p = c .before .pre in
-    let i : c .power .result ≡ 10 ^ k = c .power .ensures ∙ in-table k (omega (arith, p .start)) in
-    record { power = i; some = omega (arith, ten-above k); full = omega (arith, p .full) }
+add-if1 : tie.Need-add-if1
+add-if1 c = omega (arith, low (c), c .pre .few)
 
-mul-loop : tie.Need-mul-loop Inv-loop μ-loop
-mul-loop c = omega arith
+mul-judged : tie.Need-mul-judged
+mul-judged c = search needs
 
-add-loop : tie.Need-add-loop Inv-loop μ-loop
-add-loop c = omega arith
+div-judged : tie.Need-div-judged
+div-judged c = search needs
 
-mul-u : tie.Need-mul-u Inv-loop μ-loop
-mul-u c = omega arith
+add-judged : tie.Need-add-judged
+add-judged c = omega (arith, low (c .before), c .before .pre .few, div-le-self (c .before .args .h) (c .before .args .u * 10))
 
-add-e : tie.Need-add-e Inv-loop μ-loop
-add-e c =
-    let a = c .before .before .before in
-    omega (arith, low (a .args .h) (c .before .loop .u) (c .before .loop .e) (a .pre .few) (c .before .loop .inv))
+add-judged-2 : tie.Need-add-judged-2
+add-judged-2 c = search needs
 
-loop-less : tie.Need-loop-less Inv-loop μ-loop
-loop-less c = omega arith
+add-judged-3 : tie.Need-add-judged-3
+add-judged-3 c = search needs
 
-loop-again : tie.Need-loop-again Inv-loop μ-loop
-loop-again c =
-    next (c .before .before .before .args .h) (c .before .loop .u) (c .before .loop .e) (c .before .loop .inv) (c .loop-test .taken)
-
-div-judged : tie.Need-div-judged Inv-loop μ-loop
-div-judged c = omega arith
-
-add-judged : tie.Need-add-judged Inv-loop μ-loop
-add-judged c = omega (arith, div-le-self (c .before .before .before .args .h) (c .before .loop .u))
-
-add-judged-2 : tie.Need-add-judged-2 Inv-loop μ-loop
-add-judged-2 c =
-    let a = c .before .before .before in
-    omega (arith, low (a .args .h) (c .before .loop .u) (c .before .loop .e) (a .pre .few) (c .before .loop .inv), a .pre .place)
-
-judged-requires : tie.Need-judged-requires Inv-loop μ-loop
+judged-requires : tie.Need-judged-requires
 judged-requires c κs =
-    let a = c .before .before .before in
-    (a .pre .sign, eight-digits (a .args .h) (c .before .loop .u) (c .before .loop .e) (c .before .loop .inv) (c .loop-test .left))
+    let o = c .before in
+    let a = o .args in
+    (o .pre .sign, eight-digits (a .h) (a .u * 10) (a .k + 1) (next (a .h) (a .u) (a .k) (unit o) (c .if1 .taken)) (omega (arith, o .pre .few)))
 
-returns : tie.Need-returns Inv-loop μ-loop
+returns : tie.Need-returns
 returns c x i =
-    let l = c .before .before .loop in
-    let a = c .before .before .before .before .args in
-    c .judged .ensures ∙ sym (ap wordOf (settles (a .h) (l .u) (l .e) (l .inv) (c .before .loop-test .left) (a .s) (a .j) x i))
+    let o = c .before .before in
+    let a = o .args in
+    c .judged .ensures ∙ sym (ap wordOf (settles (a .h) (a .u * 10) (a .k + 1) (next (a .h) (a .u) (a .k) (unit o) (c .before .if1 .taken)) (omega (arith, o .pre .few)) (a .s) (a .j) x i))
+
+div-judged-2 : tie.Need-div-judged-2
+div-judged-2 c = search needs
+
+add-judged-4 : tie.Need-add-judged-4
+add-judged-4 c = omega (arith, low (c .before), c .before .pre .few, div-le-self (c .before .args .h) (c .before .args .u))
+
+add-judged-5 : tie.Need-add-judged-5
+add-judged-5 c = search needs
+
+judged-requires-2 : tie.Need-judged-requires-2
+judged-requires-2 c κs =
+    let o = c .before in
+    let a = o .args in
+    (o .pre .sign, eight-digits (a .h) (a .u) (a .k) (unit o) (c .if1 .left))
+
+returns-2 : tie.Need-returns-2
+returns-2 c x i =
+    let o = c .before .before in
+    let a = o .args in
+    c .judged2 .ensures ∙ sym (ap wordOf (settles (a .h) (a .u) (a .k) (unit o) (c .before .if1 .left) (a .s) (a .j) x i))
 
 pub settle-spec : {M : Type 1} → statement M
 settle-spec =
     tie.close
     (tie.spec
-    Inv-loop
-    μ-loop
-    power-requires
-    loop-holds
-    mul-loop
-    add-loop
-    mul-u
-    add-e
-    loop-less
-    loop-again
+    mul-if1
+    add-if1
+    mul-judged
     div-judged
     add-judged
     add-judged-2
+    add-judged-3
     judged-requires
-    returns)
+    returns
+    div-judged-2
+    add-judged-4
+    add-judged-5
+    judged-requires-2
+    returns-2)

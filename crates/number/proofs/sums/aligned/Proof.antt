@@ -1,10 +1,11 @@
 -- `number::sums::aligned` meets its contract: ten places apart the first number is the answer, and nearer the whole sum fits 64 bits.
 -- Assumes nothing.
-use Prim.Native.Nat.{_*_, _≤_}
+use Prim.Native.Nat.{ℕ, _*_, _≤_}
 use mathlib.Core.Path.{ap, _∙_}
 use native.Mathlib.Omega.{arith}
+use lib.Dec.{eqb, leb}
 use Rattle.rules.specs.Arithmetic.{wordOf}
-use Rattle.number.proofs.Aligning.{far, few, same, first, second}
+use Rattle.number.proofs.Aligning.{far, few, near-sum, joined-most, kept-sign}
 use borrow.Author.Needs.{needs}
 use Rattle.number.proofs.sums.aligned.Statement.{statement}
 use Rattle.number.proofs.sums.aligned.Tie as tie
@@ -36,53 +37,36 @@ moved c =
 mul-p : tie.Need-mul-p
 mul-p c = omega (arith, moved c)
 
-add-total : tie.Need-add-total
-add-total c = omega (arith, moved (c .before))
+kept-requires : tie.Need-kept-requires
+kept-requires c κs = search needs
 
-add-total-2 : tie.Need-add-total-2
-add-total-2 c = search needs
+joined-requires : tie.Need-joined-requires
+joined-requires c κs = (omega (arith, moved (c .before)), omega (arith, c .before .before .before .pre .other))
+
+add-total : tie.Need-add-total
+add-total c = search needs
 
 total-requires : tie.Need-total-requires
-total-requires c κs = omega (arith, moved (c .before))
+total-requires c κs =
+    let o = c .before .before .before .before in
+    let a = o .args in
+    let p : ℕ = a .m * c .before .before .power .result in (
+      omega (arith, c .before .kept .ensures, kept-sign (leb (a .n) p) (a .s) (a .t) (o .pre .first) (o .pre .second)),
+      omega (arith, c .joined .ensures, joined-most (eqb (a .s) (a .t)) (leb (a .n) p) p (a .n), moved (c .before .before), o .pre .other),
+      omega arith,
+      omega (arith, o .pre .top, o .pre .order),
+    )
 
 returns-2 : tie.Need-returns-2
 returns-2 c =
-    let p = c .before .before in
-    let o = p .before .before in
+    let o = c .before .before .before .before .before in
     let a = o .args in
+    let r = c .before .before .before .power in
+    let v = c .before .joined in
+    let z = c .before .before .kept in
     c .total .ensures
-    ∙ ap wordOf (same (a .s) (a .m) (a .x) (a .t) (a .n) (a .y) (o .pre) (p .power .result) (p .before .if1 .left) (p .power .ensures) (c .before .if2 .taken))
-
-add-total-3 : tie.Need-add-total-3
-add-total-3 c = search needs
-
-total-requires-2 : tie.Need-total-requires-2
-total-requires-2 c κs = omega (arith, moved (c .before .before))
-
-returns-3 : tie.Need-returns-3
-returns-3 c =
-    let p = c .before .before .before in
-    let o = p .before .before in
-    let a = o .args in
-    c .total2 .ensures
-    ∙ ap wordOf (first (a .s) (a .m) (a .x) (a .t) (a .n) (a .y) (o .pre) (p .power .result) (p .before .if1 .left) (p .power .ensures) (c .before .before .if2 .left) (c .before .if3 .taken))
-
-sub-total : tie.Need-sub-total
-sub-total c = search needs
-
-add-total-4 : tie.Need-add-total-4
-add-total-4 c = search needs
-
-total-requires-3 : tie.Need-total-requires-3
-total-requires-3 c κs = search needs
-
-returns-4 : tie.Need-returns-4
-returns-4 c =
-    let p = c .before .before .before in
-    let o = p .before .before in
-    let a = o .args in
-    c .total3 .ensures
-    ∙ ap wordOf (second (a .s) (a .m) (a .x) (a .t) (a .n) (a .y) (o .pre) (p .power .result) (p .before .if1 .left) (p .power .ensures) (c .before .before .if2 .left) (c .before .if3 .left))
+    ∙ ap wordOf
+    (near-sum (a .s) (a .m) (a .x) (a .t) (a .n) (a .y) (o .pre) (r .result) (c .before .before .before .before .if1 .left) (r .ensures) (z .result) (v .result) (z .ensures) (v .ensures))
 
 pub aligned-spec : {M : Type 1} → statement M
 aligned-spec =
@@ -94,14 +78,8 @@ aligned-spec =
     returns
     power-requires
     mul-p
+    kept-requires
+    joined-requires
     add-total
-    add-total-2
     total-requires
-    returns-2
-    add-total-3
-    total-requires-2
-    returns-3
-    sub-total
-    add-total-4
-    total-requires-3
-    returns-4)
+    returns-2)

@@ -1,0 +1,5 @@
+pub mod Copies
+pub mod Scans
+pub mod Wholes
+pub mod Trips
+pub mod OneAnswer

@@ -1,0 +1,77 @@
+-- `file::put_number` meets its contract. The loop's invariant: the bytes passed stand in the output, and what is left of the number is
+-- above them. Assumes nothing.
+use mathlib.Core.Path.{_≡_, refl, sym, ap, _∙_}
+use Prim.Native.Nat.{ℕ, _-_, _%_, _/_, _≤_}
+use native.Mathlib.Omega.{arith}
+use lib.ListN.{length, length-set}
+use lib.Seq.{paste, paste-zero}
+use Rattle.rules.specs.Files.{lowBytes}
+use Rattle.rules.proofs.Files.{length-low, low-at, shifted, shifted-next}
+use Rattle.file.proofs.Copies.{copy-more, copy-end}
+use Rattle.file.proofs.parts.put_number.Statement.{statement}
+use Rattle.file.proofs.parts.put_number.Tie as tie
+
+abbrev Inv-loop : tie.InvT-loop
+Inv-loop out₀ a x left₀ i₀ out left i =
+    (i ≤ 8) × (length out ≡ length out₀) × (out ≡ paste out₀ a (lowBytes 8 x) i) × (left ≡ shifted i x)
+
+abbrev μ-loop : tie.MeasureT-loop
+μ-loop out₀ a x left₀ i₀ out left i = 8 - i
+
+loop-holds : tie.Need-loop-holds Inv-loop μ-loop
+loop-holds c =
+    let a = c .args in
+    (omega arith, refl, paste-zero (a .out .now) (a .a) (lowBytes 8 (a .x)), refl)
+
+cast-out : tie.Need-cast-out Inv-loop μ-loop
+cast-out c = omega arith
+
+add-out : tie.Need-add-out Inv-loop μ-loop
+add-out c = omega arith
+
+slice-write-out : tie.Need-slice-write-out Inv-loop μ-loop
+slice-write-out c = omega arith
+
+add-i : tie.Need-add-i Inv-loop μ-loop
+add-i c = omega arith
+
+loop-less : tie.Need-loop-less Inv-loop μ-loop
+loop-less c = omega arith
+
+loop-again : tie.Need-loop-again Inv-loop μ-loop
+loop-again c =
+    let a = c .before .before .args in
+    let l = c .before .loop in
+    let i = l .i in (
+      omega arith,
+      simp length-set (l .inv .1),
+      copy-more (a .out .now) (lowBytes 8 (a .x)) (a .a) i (l .inv .2) (l .left % 256)
+          (ap (λ (y : ℕ). y % 256) (l .inv .3) ∙ sym (low-at 8 (a .x) i (omega arith)))
+          (omega arith) (omega (arith, length-low 8 (a .x))),
+      ap (λ (y : ℕ). y / 256) (l .inv .3) ∙ shifted-next i (a .x),
+    )
+
+same-length : tie.Need-same-length Inv-loop μ-loop
+same-length c = c .before .loop .inv .1
+
+returns : tie.Need-returns Inv-loop μ-loop
+returns c =
+    let a = c .before .before .args in
+    copy-end (a .out .now) (lowBytes 8 (a .x)) (a .a) (c .before .loop .i) (c .before .loop .inv .2)
+    (let e : c .before .loop .i ≡ length (lowBytes 8 (a .x)) = omega (arith, length-low 8 (a .x)) in e)
+
+pub put-number-spec : {M : Type 1} → statement M
+put-number-spec =
+    tie.close
+    (tie.spec
+    Inv-loop
+    μ-loop
+    loop-holds
+    cast-out
+    add-out
+    slice-write-out
+    add-i
+    loop-less
+    loop-again
+    same-length
+    returns)
