@@ -140,8 +140,9 @@ pub fn step(
         };
     }
     let x = as_done(state, w);
-    let tracing = state.tracing;
-    if tracing == 1 {
+    let mut s = state;
+    let mut p = at;
+    if state.tracing == 1 {
         if out.len() - at < 77 {
             return Stepped {
                 outcome: Outcome::Undone(Refusal::NoRoom),
@@ -149,8 +150,8 @@ pub fn step(
                 state,
             };
         }
-        let s = trace(drum, marks, out, at, state, w, x);
-        return obey(drum, marks, out, at + 77, s, stop, x, deck, index);
+        s = trace(drum, marks, out, at, state, w, x);
+        p = at + 77;
     }
-    obey(drum, marks, out, at, state, stop, x, deck, index)
+    obey(drum, marks, out, p, s, stop, x, deck, index)
 }
