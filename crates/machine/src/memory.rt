@@ -21,10 +21,7 @@ pub fn word(drum: &[u64], marks: &[u8], a: usize) -> u64
     requires { ⌜ (a < length (now drum)) × (a < length (now marks)) ⌝ }
     ensures { λ r. ⌜ r ≡ shown (cellOf (getD (now (marks .entry)) a 0) (getD (now (drum .entry)) a 0)) ⌝ }
 {
-    if marks[a] == 0 {
-        return 0;
-    }
-    drum[a]
+    if marks[a] == 0 { 0 } else { drum[a] }
 }
 
 // A word goes into a cell, which is marked.
