@@ -3,7 +3,7 @@
 use Prim.Native.Nat.{ℕ}
 use Rattle.rules.specs.Words.{isNumber}
 use Rattle.rules.specs.Arithmetic.{addOf, subOf, mpyOf, divOf, ngmpyOf, sqrtOf, absOf}
-use Rattle.digits.proofs.OneAnswer.{One, one}
+use Rattle.rules.proofs.Agreed.{One, one}
 
 pub record OneAnswer (a b : ℕ) : Type 0 where
   pub is-number : One (isNumber b)

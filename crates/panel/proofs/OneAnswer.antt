@@ -7,7 +7,7 @@ use Rattle.rules.specs.Arithmetic.{addOf, subOf, mpyOf, divOf, ngmpyOf, sqrtOf,
 use Rattle.rules.specs.Decks.{deckOf}
 use Rattle.rules.specs.Loads.{LoadResult}
 use Rattle.rules.specs.Running.{RunResult}
-use Rattle.stops.proofs.OneAnswer.{One, one}
+use Rattle.rules.proofs.Agreed.{One, one}
 use Rattle.panel.specs.Told.{wordTold, placeTold}
 use Rattle.panel.specs.Calls.{LoadTold, RunTold}
 use Rattle.panel.specs.declared.Place.{Place}

@@ -17,3 +17,4 @@ pub mod Results
 pub mod States
 pub mod Files
 pub mod Texts
+pub mod Agreed

@@ -1,6 +1,5 @@
 -- Each function here has one answer: its contract says what the answer equals, and two answers that equal a third are equal.
 -- Assumes nothing.
-use mathlib.Core.Path.{_≡_, sym, _∙_}
 use Rattle.rules.specs.Numbers.{refusalNumber, reckonedNumber, reckonedWord, deckNumber, deckPlace, barNumber, barPlace}
 use Rattle.rules.specs.Numbers.{outcomeNumber, outcomeShown, endingNumber, endingPlace, endingShown, loadingNumber, loadingPlace}
 use Rattle.rules.specs.declared.Refusal.{Refusal}
@@ -10,13 +9,7 @@ use Rattle.rules.specs.declared.Bar.{Bar}
 use Rattle.rules.specs.declared.Outcome.{Outcome}
 use Rattle.rules.specs.declared.Ending.{Ending}
 use Rattle.rules.specs.declared.Loading.{Loading}
-
--- the answers r that a rule allows are one
-abbrev pub One : {A : Type 0} → A → Type 0
-One {A} rule = (r q : A) → r ≡ rule → q ≡ rule → r ≡ q
-
-pub one : {A : Type 0} (rule : A) → One rule
-one rule r q i j = i ∙ sym j
+use Rattle.rules.proofs.Agreed.{One, one}
 
 pub record OneAnswer (f : Refusal) (x : Reckoned) (d : DeckFault) (b : Bar) (o : Outcome) (e : Ending) (l : Loading) : Type 0 where
   pub refusal-number : One (refusalNumber f)
