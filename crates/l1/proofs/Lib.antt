@@ -1,0 +1,4 @@
+pub mod Letters
+pub mod Rooms
+pub mod Answers
+pub mod Fits

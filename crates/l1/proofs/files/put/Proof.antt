@@ -1,0 +1,28 @@
+-- `l1::files::put` answers a place within the output. Assumes nothing.
+use native.Mathlib.Omega.{arith}
+use Rattle.l1.proofs.Letters.{counts}
+use borrow.Author.Needs.{needs}
+use Rattle.l1.proofs.files.put.Statement.{statement}
+use Rattle.l1.proofs.files.put.Tie as tie
+
+sub-left : tie.Need-sub-left
+sub-left c = search needs
+
+least-requires : tie.Need-least-requires
+least-requires c κs = search needs
+
+copy-requires : tie.Need-copy-requires
+copy-requires c κs = search needs
+
+add-result : tie.Need-add-result
+add-result c = search needs
+
+same-length : tie.Need-same-length
+same-length c = search needs
+
+returns : tie.Need-returns
+returns c = counts _ _ (omega (arith, c .before .before .before .before .least .ensures .1, c .before .before .copy .ensures))
+
+pub put-spec : {M : Type 1} → statement M
+put-spec =
+    tie.close (tie.spec sub-left least-requires copy-requires add-result same-length returns)

@@ -1,0 +1,23 @@
+-- `l1::sessions::may_refill` meets its contract, by its test and the paper's numbers. Assumes nothing.
+use mathlib.Core.Path.{ap₂}
+use lib.Dec.{eqb}
+use borrow.Author.Tests.{eq-eqb, ne-eqb}
+use borrow.Author.Needs.{needs}
+use Rattle.l1.proofs.sessions.may_refill.Statement.{statement}
+use Rattle.l1.proofs.sessions.may_refill.Tie as tie
+
+returns : tie.Need-returns
+returns c = rw (eq-eqb (c .before .args .count) 0 (c .if1 .taken))
+
+ending-number-requires : tie.Need-ending-number-requires
+ending-number-requires c κs = search needs
+
+refusal-number-requires : tie.Need-refusal-number-requires
+refusal-number-requires c κs = search needs
+
+returns-2 : tie.Need-returns-2
+returns-2 c = rw (ne-eqb (c .before .before .before .args .count) 0 (c .before .before .if1 .left)) (ap₂ eqb (c .before .ending-number .ensures) (c .refusal-number .ensures))
+
+pub may-refill-spec : {M : Type 1} → statement M
+may-refill-spec =
+    tie.close (tie.spec returns ending-number-requires refusal-number-requires returns-2)

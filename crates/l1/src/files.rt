@@ -1,0 +1,190 @@
+// Files by name: read whole, made new, and replaced whole or not at all.
+ghost use Rattle.io.specs.Counts.{Counts};
+ghost use Rattle.libc.specs.Io.{Ended};
+ghost use mathlib.Core.Path.{_≡_};
+ghost use lib.ListN.{length};
+ghost use Prim.Native.Nat.{_+_, _≤_};
+
+// Whether a file was read, and how many bytes of the room it took.
+pub struct Filled {
+    pub good: bool,
+    pub count: usize,
+}
+
+// Room for a deck and one byte more, by which a longer one is noticed.
+pub fn deck_room() -> [u8; 65537]
+    ensures { λ r. ⌜ 65537 ≡ length r ⌝ }
+{
+    [0; 65537]
+}
+
+// One read into what is left of the room; nothing at the file's end.
+fn read_some(fd: i32, rest: &mut [u8]) -> Filled
+    ensures { λ r. ⌜ Counts (r .count) (now (rest .exit)) ⌝ }
+{
+    let got = libc::read(fd, rest);
+    let n = io::count(got, rest);
+    Filled {
+        good: got >= 0,
+        count: n,
+    }
+}
+
+// Reads until the room is full or the file ends.
+pub fn fill(fd: i32, room: &mut [u8]) -> Filled
+    ensures { λ r. ⌜ Counts (r .count) (now (room .exit)) ⌝ }
+{
+    let mut at: usize = 0;
+    while at < room.len() {
+        let x = read_some(fd, &mut room[at..]);
+        let n = x.count;
+        if !x.good {
+            return Filled {
+                good: false,
+                count: 0,
+            };
+        }
+        if n == 0 {
+            break;
+        }
+        at += n;
+    }
+    Filled {
+        good: true,
+        count: at,
+    }
+}
+
+// The file at path, as far as the room goes. Where it cannot be read, that is said.
+pub fn read_whole(room: &mut [u8], path: &[u8]) -> Filled
+    ensures { λ r. ⌜ Counts (r .count) (now (room .exit)) ⌝ }
+{
+    let fd = os::open_read(path);
+    if fd < 0 {
+        crate::says::failed(path);
+        return Filled {
+            good: false,
+            count: 0,
+        };
+    }
+    let x = fill(fd, room);
+    if !x.good {
+        crate::says::failed(path);
+    }
+    libc::close(fd);
+    x
+}
+
+// The bytes are written to an open file, flushed to the disk, and the file is closed. It answers whether all of it went well; errno
+// says of the first that did not why.
+fn write_out(fd: i32, bytes: &[u8]) -> bool {
+    if !io::write_all(fd, bytes) {
+        return false;
+    }
+    if libc::fsync(fd) != 0 {
+        return false;
+    }
+    libc::close(fd) == 0
+}
+
+// A file is made of bytes under a name that no file has; it is its owner's alone, as is one that replaces it later. Where that fails, it
+// is said and no file is left.
+pub fn make(path: &[u8], bytes: &[u8]) -> bool {
+    let fd = os::create(path);
+    if fd < 0 {
+        crate::says::failed(path);
+        return false;
+    }
+    libc::fchmod(fd, 0o600);
+    if !write_out(fd, bytes) {
+        crate::says::failed(path);
+        os::unlink(path);
+        return false;
+    }
+    true
+}
+
+// The first n bytes of a part are put at a place.
+fn copy(out: &mut [u8], at: usize, part: &[u8], n: usize)
+    requires { ⌜ at + n ≤ length (now out) ⌝ }
+    requires { ⌜ n ≤ length (now part) ⌝ }
+    ensures { λ _. ⌜ length (now (out .exit)) ≡ length (now (out .entry)) ⌝ }
+{
+    let mut i: usize = 0;
+    while i < n {
+        out[at + i] = part[i];
+        i += 1;
+    }
+}
+
+// The smaller of two numbers.
+fn least(a: usize, b: usize) -> usize
+    ensures { λ r. ⌜ (r ≤ a) × (r ≤ b) ⌝ }
+{
+    if a < b { a } else { b }
+}
+
+// As much of a part as there is room for is put at a place, and the place behind it is answered.
+fn put(out: &mut [u8], at: usize, part: &[u8]) -> usize
+    requires { ⌜ at ≤ length (now out) ⌝ }
+    ensures { λ r. ⌜ Counts r (now (out .exit)) ⌝ }
+{
+    let left = out.len() - at;
+    let n = least(part.len(), left);
+    copy(out, at, part, n);
+    at + n
+}
+
+// The name of a new file beside the one at path, as create_temp takes it.
+fn name_beside(name: &mut [u8], path: &[u8]) -> usize
+    ensures { λ r. ⌜ Counts r (now (name .exit)) ⌝ }
+{
+    let at = put(name, 0, path);
+    put(name, at, b".new-XXXXXX")
+}
+
+// The file at path is replaced by a new one of these bytes beside it, whose name is made from the one given.
+fn replace_by(name: &mut [u8], path: &[u8], bytes: &[u8]) -> bool {
+    let fd = os::create_temp(name);
+    if fd < 0 {
+        crate::says::failed(name);
+        return false;
+    }
+    if !write_out(fd, bytes) {
+        crate::says::failed(name);
+        os::unlink(name);
+        return false;
+    }
+    if os::rename(name, path) != 0 {
+        crate::says::failed(path);
+        os::unlink(name);
+        return false;
+    }
+    true
+}
+
+// The file at path is replaced by one of these bytes, whole or not at all: they are written to a new file beside it, which then takes its
+// name. Where that fails, it is said and the new file is removed. A killed call leaves a new file behind that no later call meets, since
+// each has a name of its own.
+pub fn replace(path: &[u8], bytes: &[u8]) -> bool {
+    let mut name = io::buffer();
+    let n = name_beside(&mut name, path);
+    replace_by(&mut name[..n], path, bytes)
+}
+
+// A path as C takes it: at most 4,095 bytes of it, and zeros behind them.
+fn ended(path: &[u8]) -> [u8; 4096]
+    ensures { λ r. ⌜ Ended r ⌝ }
+{
+    let mut name = io::buffer();
+    put(&mut name, 0, path);
+    name[4095] = 0;
+    name
+}
+
+// Whether the name is that of a link. A link would be replaced itself, and the file that it leads to stay as it was.
+pub fn is_link(path: &[u8]) -> bool {
+    let mut text = io::buffer();
+    let name = ended(path);
+    libc::readlink(&name, &mut text) >= 0
+}

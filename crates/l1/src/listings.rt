@@ -1,0 +1,208 @@
+// Listings on standard output: cards as lines that people read, and the marked cells of a machine file.
+ghost use mathlib.Core.Path.{_≡_};
+ghost use Prim.Native.Nat.{_≤_};
+ghost use lib.ListN.{length};
+use crate::files::fill;
+use crate::machines::hold;
+use crate::machines::is_fit;
+use crate::sessions::empty_drum;
+use crate::sessions::no_marks;
+use crate::telling::send_first;
+use crate::telling::tell_bar;
+use rules::Bar;
+
+// Whether all lines of a part of a file were sent, and how many bytes its cards take.
+pub struct Listed {
+    pub sent: bool,
+    pub taken: usize,
+}
+
+// The lines of the cards at the start of a part. Where it is not the last of its file, a card that it may have cut short is left.
+fn list_cards(lines: &mut [u8], part: &[u8], is_last: bool) -> Listed
+    ensures { λ r. ⌜ r .taken ≤ length (now (part .entry)) ⌝ }
+{
+    let mut at: usize = 0;
+    while at < part.len() {
+        let left = part.len() - at;
+        if left < 77 {
+            if !is_last {
+                return Listed {
+                    sent: true,
+                    taken: at,
+                };
+            }
+        }
+        let x = list::write_lines(lines, &part[at..]);
+        let n = x.written;
+        let size = x.taken;
+        if size == 0 {
+            return Listed {
+                sent: true,
+                taken: at,
+            };
+        }
+        if left < size {
+            return Listed {
+                sent: true,
+                taken: at,
+            };
+        }
+        if !send_first(lines, n) {
+            return Listed {
+                sent: false,
+                taken: at,
+            };
+        }
+        at += size;
+    }
+    Listed {
+        sent: true,
+        taken: at,
+    }
+}
+
+// The bytes of the room from a place up to another go to its start.
+fn move_down(room: &mut [u8], from: usize, to: usize)
+    requires { ⌜ (from ≤ to) × (to ≤ length (now room)) ⌝ }
+    ensures { λ _. ⌜ length (now (room .exit)) ≡ length (now (room .entry)) ⌝ }
+{
+    let n = to - from;
+    let mut i: usize = 0;
+    while i < n {
+        room[i] = room[from + i];
+        i += 1;
+    }
+}
+
+// The line for a place of the file where no card begins.
+fn list_bad(place: usize) {
+    let mut line = [0u8; 64];
+    let n = list::write_bad(&mut line, place);
+    send_first(&line, n);
+}
+
+// How a listing stands: whether it goes on, how many bytes at the start of the room are yet to be listed, and their place in the file.
+pub struct Window {
+    pub open: bool,
+    pub kept: usize,
+    pub place: usize,
+}
+
+// A listing that has ended.
+fn closed() -> Window
+    ensures { λ r. ⌜ r .kept ≡ 0 ⌝ }
+{
+    Window {
+        open: false,
+        kept: 0,
+        place: 0,
+    }
+}
+
+// One room of the file: it is filled, its cards are listed, and a card that it cuts short is kept. The place where no card begins is
+// listed last.
+fn list_some(room: &mut [u8], lines: &mut [u8], path: &[u8], fd: i32, window: Window) -> Window
+    requires { ⌜ (length (now room) ≡ 65536) × (window .kept ≤ 65536) ⌝ }
+    ensures { λ r. ⌜ r .kept ≤ 65536 ⌝ }
+{
+    let kept = window.kept;
+    let place = window.place;
+    if 9_000_000_000_000_000_000 < place {
+        return closed();
+    }
+    let x = fill(fd, &mut room[kept..]);
+    let got = x.count;
+    if !x.good {
+        crate::says::failed(path);
+        return closed();
+    }
+    let n = kept + got;
+    let y = list_cards(lines, &room[0..n], n < 65536);
+    let taken = y.taken;
+    if !y.sent {
+        return closed();
+    }
+    if n < 65536 || taken == 0 {
+        if taken < n {
+            list_bad(place + taken);
+        }
+        return closed();
+    }
+    move_down(room, taken, n);
+    Window {
+        open: true,
+        kept: n - taken,
+        place: place + taken,
+    }
+}
+
+// All of an open file, room after room. A proved loop has to end, and nothing says that a file does, so it counts its turns down from a
+// number that no file uses up.
+fn list_all(room: &mut [u8], lines: &mut [u8], path: &[u8], fd: i32)
+    requires { ⌜ length (now room) ≡ 65536 ⌝ }
+{
+    let mut window = Window {
+        open: true,
+        kept: 0,
+        place: 0,
+    };
+    let mut turns = u64::MAX;
+    while turns > 0 && window.open {
+        window = list_some(room, lines, path, fd, window);
+        turns -= 1;
+    }
+}
+
+// The cards of the file at path.
+pub fn list(path: &[u8]) {
+    let mut room = io::large_buffer();
+    let mut lines = io::buffer();
+    let fd = os::open_read(path);
+    if fd < 0 {
+        crate::says::failed(path);
+        return;
+    }
+    list_all(&mut room, &mut lines, path, fd);
+    libc::close(fd);
+}
+
+// The line of one marked cell.
+fn list_cell(address: usize, word: u64) -> bool {
+    let mut line = [0u8; 64];
+    let n = list::write_cell(&mut line, address, word);
+    send_first(&line, n)
+}
+
+// The marked cells, one to a line, up to the first line that cannot be sent.
+fn list_cells(drum: &[u64], marks: &[u8])
+    requires { ⌜ length (now drum) ≡ length (now marks) ⌝ }
+{
+    let mut a: usize = 0;
+    while a < drum.len() {
+        if marks[a] == 1 {
+            if !list_cell(a, drum[a]) {
+                return;
+            }
+        }
+        a += 1;
+    }
+}
+
+// The marked cells of the machine file at path.
+pub fn cells(path: &[u8]) {
+    let mut drum = empty_drum();
+    let mut marks = no_marks();
+    let held = hold(&mut drum, &mut marks, path);
+    if !held.read {
+        return;
+    }
+    if !held.good {
+        tell_bar(Bar::BadDrum);
+        return;
+    }
+    if !is_fit(&mut drum, &mut marks) {
+        tell_bar(Bar::BadDrum);
+        return;
+    }
+    list_cells(&drum, &marks);
+}

@@ -1,0 +1,48 @@
+// The program: one command for each call. Here the words of the call choose what is done; it is done by the other modules, over the
+// libraries.
+mod files;
+mod listings;
+mod machines;
+mod says;
+mod sessions;
+mod telling;
+mod words;
+
+use words::Command;
+use words::Options;
+
+// The command, on the files that the words behind it name.
+fn obey(command: Command, options: Options) {
+    let mut name = io::buffer();
+    let named = words::name_at(&mut name, 2);
+    if !named.good {
+        return;
+    }
+    let n = named.count;
+    match command {
+        Command::Session => sessions::session(&name[..n], options),
+        Command::New => machines::new(&name[..n]),
+        Command::Load => machines::load(&name[..n], options),
+        Command::Run => machines::run(&name[..n], options),
+        Command::Deck => telling::check_deck(&name[..n]),
+        Command::List => listings::list(&name[..n]),
+        Command::Cells => listings::cells(&name[..n]),
+        Command::Unknown => says::help(),
+    }
+}
+
+fn main() {
+    let mut word = io::buffer();
+    let n = os::arg(1, &mut word);
+    let command = words::command_of(&word[..n]);
+    if !words::is_known(command) {
+        says::unknown(&word[..n]);
+        return;
+    }
+    let options = words::options_of(command);
+    if !options.good {
+        says::usage(command);
+        return;
+    }
+    obey(command, options);
+}

@@ -1,0 +1,147 @@
+// Load and run, on an empty drum or on a machine file.
+ghost use mathlib.Core.Path.{_≡_};
+ghost use mathlib.Core.Bool.{true};
+ghost use Prim.Native.Nat.{_≤_};
+ghost use lib.ListN.{length};
+ghost use Rattle.l1.specs.Going.{mayRefill, goneOn, WentOn};
+use crate::telling::send_first;
+use crate::telling::tell;
+use crate::telling::tell_bar;
+use crate::words::Options;
+use crate::words::is_given;
+use rules::Ending;
+use rules::Loading;
+use rules::Refusal;
+use rules::State;
+
+// What a run came to, room after room, and whether all its cards were sent.
+pub struct Gone {
+    pub sent: bool,
+    pub ending: Ending,
+    pub count: u64,
+    pub state: State,
+}
+
+// Whether a run that ended so is to go on in an empty room: it was refused for want of room, and not with its first order, which would
+// be refused again.
+fn may_refill(ending: Ending, count: u64) -> bool
+    ensures { λ r. ⌜ r ≡ mayRefill ending count ⌝ }
+{
+    if count == 0 {
+        return false;
+    }
+    stops::ending_number(ending) == stops::refusal_number(Refusal::NoRoom)
+}
+
+// A run whose cards are sent as it goes on. Where the room is full the cards in it are sent, and the run goes on with the rest of its
+// budget in the same room, empty again.
+pub fn go_on(
+    drum: &mut [u64],
+    marks: &mut [u8],
+    out: &mut [u8],
+    deck: &[u8],
+    state: State,
+    budget: u64,
+    stop: bool,
+) -> Gone
+    ensures { λ r. ⌜ (r .sent ≡ true → WentOn (goneOn budget (now (drum .entry)) (now (marks .entry)) (now (deck .entry)) (now (out .entry)) state budget stop 0)
+        (now (drum .exit)) (now (marks .exit)) r) ⌝ }
+{
+    let mut count: u64 = 0;
+    let mut left = budget;
+    let mut st = state;
+    loop {
+        let x = machine::run(drum, marks, out, deck, st, left, stop);
+        let ending = x.ending;
+        let done = x.count;
+        let n = x.written;
+        let s = x.state;
+        count += done;
+        if !send_first(out, n) {
+            return Gone {
+                sent: false,
+                ending,
+                count,
+                state: s,
+            };
+        }
+        if !may_refill(ending, done) {
+            return Gone {
+                sent: true,
+                ending,
+                count,
+                state: s,
+            };
+        }
+        left -= done;
+        st = s;
+    }
+}
+
+// 1,000 cells of 0.
+pub fn empty_drum() -> [u64; 1000]
+    ensures { λ r. ⌜ 1000 ≡ length r ⌝ }
+{
+    [0; 1000]
+}
+
+// 1,000 marks of 0.
+pub fn no_marks() -> [u8; 1000]
+    ensures { λ r. ⌜ 1000 ≡ length r ⌝ }
+{
+    [0; 1000]
+}
+
+// The state of nine zeros.
+pub fn no_state() -> State {
+    State {
+        location: 0,
+        counts: [0, 0, 0],
+        counter: 0,
+        problem: 0,
+        reader: 0,
+        mode: 0,
+        tracing: 0,
+    }
+}
+
+// A deck is loaded on an empty drum and run: its cards, then the Z card.
+fn play(deck: &[u8], options: Options) {
+    let mut drum = empty_drum();
+    let mut marks = no_marks();
+    let traced = options.traced;
+    let x = machine::load(&mut drum, &mut marks, deck, no_state(), is_given(traced));
+    let loading = x.loading;
+    let state = x.state;
+    match loading {
+        Loading::NotLoaded(b) => tell_bar(b),
+        Loading::Loaded => {
+            let mut out = io::large_buffer();
+            let stop = options.stop;
+            let g = go_on(
+                &mut drum,
+                &mut marks,
+                &mut out,
+                deck,
+                state,
+                options.budget,
+                is_given(stop),
+            );
+            if g.sent {
+                let ending = g.ending;
+                let after = g.state;
+                tell(ending, after.location, g.count);
+            }
+        }
+    }
+}
+
+// The deck at path is loaded on an empty drum and run.
+pub fn session(path: &[u8], options: Options) {
+    let mut room = crate::files::deck_room();
+    let deck = crate::files::read_whole(&mut room, path);
+    if deck.good {
+        let n = deck.count;
+        play(&room[..n], options);
+    }
+}
