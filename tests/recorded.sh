@@ -1,5 +1,5 @@
 # The checks of the recorded sessions, tests/sessions/list. Read with `.` behind tests/kit.sh, at the top of the repository; they use the
-# front panel that build_c made, and target/second.
+# program, the front panel that build_c made, and target/second.
 
 # listings: each deck is what the keypunch makes of the listing beside it, and each kept output is on the list.
 listings() {
@@ -18,12 +18,14 @@ listings() {
     [ "$count" -gt 0 ] && [ "$wrong" -eq 0 ]
 }
 
-# recorded: each session on the list, by the library and by the second program; both must write the bytes that are kept.
+# recorded: each session on the list, by the program, by the front panel and by the second program; all must write the bytes that are kept.
 recorded() {
     count=0 differences=0
     while read -r kept deck words; do
         case $kept in '' | '#'*) continue ;; esac
         count=$((count + 1))
+        # shellcheck disable=SC2086
+        same program session "$deck" $words || differences=$((differences + 1))
         # shellcheck disable=SC2086
         same run_c front session "$deck" $words || differences=$((differences + 1))
         # shellcheck disable=SC2086
@@ -32,6 +34,8 @@ recorded() {
     echo "recorded: $count sessions, $differences differences"
     [ "$count" -gt 0 ] && [ "$differences" -eq 0 ]
 }
+
+program() (exec_program target/bin/l1 "$@")
 
 # same COMMAND [WORDS..]: whether a command does well and writes the bytes of the file $kept.
 same() {

@@ -345,7 +345,7 @@ killed_at() {
     whole "l1 $*: killed after $delay s"
 }
 
-# moments WORDS..: kills at growing delays, from none to past the time that the call takes.
+# moments WORDS..: kills at growing delays, from none to past the time that the call took, and on until it was too late a few times.
 moments() {
     was_old=0 was_new=0
     cp old.machine m.machine
@@ -354,8 +354,9 @@ moments() {
     took=$((($(date +%s%N) - began) / 1000))
     cp m.machine new.machine
     cmp -s old.machine new.machine && fail "l1 $*: changes nothing"
-    for k in $(awk -v took="$took" 'BEGIN { for (i = 0; i < 100; i++) printf "%.6f\n", took * (0.3 + i * 0.012) / 1000000 }'); do
+    for k in $(awk -v took="$took" 'BEGIN { for (i = 0; i < 400; i++) printf "%.6f\n", took * i * 0.014 / 1000000 }'); do
         killed_at "$k" "$@"
+        [ $((was_old + was_new)) -lt 100 ] || [ "$was_new" -lt 5 ] || break
     done
     [ "$was_old" -gt 0 ] && [ "$was_new" -gt 0 ] || fail "l1 $*: old $was_old times, new $was_new times"
     rm -f m.machine.new-*
