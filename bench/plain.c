@@ -279,24 +279,29 @@ static int state_fits(const struct run *r, size_t behind, uint64_t budget)
     return at == s->reader;
 }
 
+/* The entry of both calls: what refuses it, with the place to tell, or OK and the place behind the first-order card. */
+static struct l1_place enter(const uint64_t *drum, size_t cells, const uint8_t *marks, size_t marks_len, const uint8_t *deck,
+                             size_t deck_len, size_t state_len)
+{
+    struct l1_place told = {DRUM, 0};
+    if (!drum_fits(drum, cells, marks, marks_len))
+        return told;
+    told.number = (uint64_t)check_deck(deck, deck_len, &told.place);
+    if (told.number == OK && state_len != 9) {
+        told.number = STATE;
+        told.place = 0;
+    }
+    return told;
+}
+
 struct l1_place plain_load(uint64_t *drum, size_t cells, uint8_t *marks, size_t marks_len, const uint8_t *deck, size_t deck_len,
                            uint64_t *state, size_t state_len, uint64_t traced)
 {
-    struct l1_place told = {OK, 0};
-    size_t behind, at = 0;
-    if (!drum_fits(drum, cells, marks, marks_len)) {
-        told.number = DRUM;
+    struct l1_place told = enter(drum, cells, marks, marks_len, deck, deck_len, state_len);
+    size_t behind = told.place, at = 0;
+    if (told.number)
         return told;
-    }
-    if (check_deck(deck, deck_len, &behind)) {
-        told.number = DECK;
-        told.place = behind;
-        return told;
-    }
-    if (state_len != 9) {
-        told.number = STATE;
-        return told;
-    }
+    told.place = 0;
     for (; deck[at] != 'T'; at += 11 + 11 * (size_t)(deck[at] - '0'))
         store_card(drum, marks, deck + at);
     drum[0] = 0;
@@ -602,23 +607,15 @@ static int step(struct run *r)
 struct l1_ended plain_run(uint64_t *drum, size_t cells, uint8_t *marks, size_t marks_len, const uint8_t *deck, size_t deck_len,
                           uint8_t *out, size_t room, uint64_t *state, size_t state_len, uint64_t budget, uint64_t stop)
 {
-    struct l1_ended told = {BUDGET, 0, 0, 0, 0};
+    struct l1_place entered = enter(drum, cells, marks, marks_len, deck, deck_len, state_len);
+    struct l1_ended told = {entered.number, entered.place, 0, 0, 0};
     struct run r = {drum, marks, deck, deck_len, out, room, 0, {0}, stop, 0};
-    size_t behind;
-    if (!drum_fits(drum, cells, marks, marks_len)) {
-        told.number = DRUM;
+    if (told.number)
         return told;
-    }
-    if (check_deck(deck, deck_len, &behind)) {
-        told.number = DECK;
-        told.place = behind;
-        return told;
-    }
     told.number = STATE;
-    if (state_len != 9)
-        return told;
+    told.place = 0;
     __builtin_memcpy(&r.s, state, sizeof r.s);
-    if (!state_fits(&r, behind, budget))
+    if (!state_fits(&r, entered.place, budget))
         return told;
     told.number = BUDGET;
     while (told.count < budget) {
