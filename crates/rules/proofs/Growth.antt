@@ -111,7 +111,7 @@ retraced-grows m StTrEras = store-grows (m .cells) (m .state .location) erased
 gone-grows : (i : Inputs) (m : Machine) (g : Going) (b c : ℕ) → Grows (m .cells) (gone i m g b c .machine .cells)
 unfolding gone
 gone-grows i m UncStop b c = same (m .cells)
-gone-grows i m CondStop b c = cond-grows (i .stop) m b c
+gone-grows i m CondStop b c = cond-grows (i .switches .stop) m b c
 gone-grows i m TrSgn b c = same (m .cells)
 gone-grows i m TrExp b c = same (m .cells)
 gone-grows i m Tr b c = same (m .cells)

@@ -59,7 +59,7 @@ punched-stays i m b n =
 gone-stays : (i : Inputs) (m : Machine) (g : Going) (b c : ℕ) → Stays m (gone i m g b c)
 unfolding gone
 gone-stays i m UncStop b c = λ e. refl
-gone-stays i m CondStop b c = cond-stays (i .stop) m b c
+gone-stays i m CondStop b c = cond-stays (i .switches .stop) m b c
 gone-stays i m TrSgn b c = false-true
 gone-stays i m TrExp b c = false-true
 gone-stays i m Tr b c = false-true

@@ -17,7 +17,14 @@ use Rattle.rules.specs.declared.Bar.the-variants.{BadDrum, BadDeck}
 use Rattle.rules.specs.declared.Loading.{Loading}
 use Rattle.rules.specs.declared.Loading.the-variants.{Loaded, NotLoaded}
 
--- what is answered, and what the lent drum and marks then hold
+-- what a call is lent and given, what is answered, and what the lent drum and marks then hold
+pub record LoadCall : Type 0 where
+  pub drum : List ℕ
+  pub marks : List ℕ
+  pub deck : List ℕ
+  pub state : State
+  pub traced : Bool
+
 pub record LoadResult : Type 0 where
   pub loading : Loading
   pub state : State
@@ -25,8 +32,8 @@ pub record LoadResult : Type 0 where
   pub marks : List ℕ
 
 -- nothing is changed, and the state is handed back as it came
-abbrev pub notLoaded : List ℕ → List ℕ → State → Bar → LoadResult
-notLoaded drum marks s b = record { loading = NotLoaded b; state = s; drum = drum; marks = marks }
+abbrev pub notLoaded : LoadCall → Bar → LoadResult
+notLoaded c b = record { loading = NotLoaded b; state = c .state; drum = c .drum; marks = c .marks }
 
 -- plain or traced
 abbrev pub modeOf : Bool → ℕ
@@ -51,19 +58,18 @@ fresh t behind traced =
 abbrev pub cellsLoaded : List Cell → List ℕ → ℕ → List Cell
 cellsLoaded v deck end = store (cardsStored end deck 0 end v) 0 0
 
-unfoldable pub loadedFrom : List ℕ → List ℕ → List ℕ → State → Bool → Deck → LoadResult
-loadedFrom drum marks deck s traced (Faulty f) = notLoaded drum marks s (BadDeck f)
-loadedFrom drum marks deck s traced (Good behind) =
-    let v = cellsLoaded (view drum marks) deck (behind - firstSize) in
+unfoldable pub loadedFrom : LoadCall → Deck → LoadResult
+loadedFrom c (Faulty f) = notLoaded c (BadDeck f)
+loadedFrom c (Good behind) =
+    let v = cellsLoaded (view (c .drum) (c .marks)) (c .deck) (behind - firstSize) in
     record {
       loading = Loaded;
-      state = fresh (drop (behind - firstSize) deck) behind traced;
-      drum = overlay drum v;
+      state = fresh (drop (behind - firstSize) (c .deck)) behind (c .traced);
+      drum = overlay (c .drum) v;
       marks = marksOf v;
     }
 
 -- the checks 10 and 11 in their order, and then the load
-unfoldable pub loaded : List ℕ → List ℕ → List ℕ → State → Bool → LoadResult
-loaded drum marks deck s traced =
-    pick (drumFits (length drum) marks (view drum marks)) (loadedFrom drum marks deck s traced (deckOf deck))
-    (notLoaded drum marks s BadDrum)
+unfoldable pub loaded : LoadCall → LoadResult
+loaded c =
+    pick (drumFits (length (c .drum)) (c .marks) (view (c .drum) (c .marks))) (loadedFrom c (deckOf (c .deck))) (notLoaded c BadDrum)

@@ -8,6 +8,7 @@ use lib.ListN.{getD}
 use Rattle.rules.specs.Drum.{store}
 use Rattle.rules.specs.declared.Cell.{Cell}
 use Rattle.rules.specs.declared.State.{State}
+use Rattle.rules.specs.declared.Switches.{Switches}
 use Rattle.rules.specs.declared.Refusal.{Refusal}
 use Rattle.rules.specs.declared.Outcome.{Outcome}
 use Rattle.rules.specs.declared.Outcome.the-variants.{GoesOn, Undone}
@@ -17,11 +18,11 @@ pub record Machine : Type 0 where
   pub sent : List ℕ
   pub state : State
 
--- what a run is lent beside the machine: the deck, the room for cards, and the PROGRAMMED STOP switch, true on STOP
+-- what a run is lent beside the machine: the deck, the room for cards, and the console's switches
 pub record Inputs : Type 0 where
   pub deck : List ℕ
   pub room : ℕ
-  pub stop : Bool
+  pub switches : Switches
 
 pub record Answer : Type 0 where
   pub outcome : Outcome

@@ -7,7 +7,9 @@ use Rattle.rules.specs.declared.Refusal.the-variants.{BadAddress, Unmark
 use Rattle.rules.specs.declared.Reckoned.{Reckoned}
 use Rattle.rules.specs.declared.Reckoned.the-variants.{Result, Refused}
 use Rattle.rules.specs.declared.Outcome.{Outcome}
-use Rattle.rules.specs.declared.Outcome.the-variants.{GoesOn, Stopped, Paused, Undone}
+use Rattle.rules.specs.declared.Stop.{Stop}
+use Rattle.rules.specs.declared.Stop.the-variants.{Unconditional, Conditional}
+use Rattle.rules.specs.declared.Outcome.the-variants.{GoesOn, Stops, Undone}
 use Rattle.rules.specs.declared.DeckFault.{DeckFault}
 use Rattle.rules.specs.declared.DeckFault.the-variants.{TooLong, At, NoFirst}
 use Rattle.rules.specs.declared.Bar.{Bar}
@@ -39,38 +41,42 @@ abbrev pub reckonedWord : Reckoned → ℕ
 reckonedWord (Result w) = w
 reckonedWord (Refused r) = 0
 
+-- the stops of orders
+abbrev pub stopNumber : Stop → ℕ
+stopNumber Unconditional = 0
+stopNumber Conditional = 1
+
 -- An order's outcome. A run that may go on, and has no order left to do, has used its budget.
 abbrev pub outcomeNumber : Outcome → ℕ
-outcomeNumber (Stopped w) = 0
-outcomeNumber (Paused w) = 1
+outcomeNumber (Stops k w) = stopNumber k
 outcomeNumber GoesOn = 2
 outcomeNumber (Undone r) = refusalNumber r
 
--- the word shown: +0 but for the two stops
+-- the word shown: +0 but for a stop
 abbrev pub outcomeShown : Outcome → ℕ
-outcomeShown (Stopped w) = w
-outcomeShown (Paused w) = w
+outcomeShown (Stops k w) = w
 outcomeShown GoesOn = 0
 outcomeShown (Undone r) = 0
 
 -- how many orders were completed: none where it is undone
 abbrev pub completed : Outcome → ℕ
-completed (Stopped w) = 1
-completed (Paused w) = 1
+completed (Stops k w) = 1
 completed GoesOn = 1
 completed (Undone r) = 0
 
 -- whether the next order may be begun
 abbrev pub mayGoOn : Outcome → Bool
-mayGoOn (Stopped w) = false
-mayGoOn (Paused w) = false
+mayGoOn (Stops k w) = false
 mayGoOn GoesOn = true
 mayGoOn (Undone r) = false
 
 -- whether the next run tries the same order again: after the stop 00, and after a refusal
+abbrev pub stays : Stop → Bool
+stays Unconditional = true
+stays Conditional = false
+
 abbrev pub triesAgain : Outcome → Bool
-triesAgain (Stopped w) = true
-triesAgain (Paused w) = false
+triesAgain (Stops k w) = stays k
 triesAgain GoesOn = false
 triesAgain (Undone r) = true
 

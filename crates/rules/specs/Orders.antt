@@ -18,7 +18,8 @@ use Rattle.rules.specs.declared.Reckoned.the-variants.{Result, Refused}
 use Rattle.rules.specs.declared.Refusal.the-variants.{NoRoom}
 use Rattle.rules.specs.declared.Judged.{Judged}
 use Rattle.rules.specs.declared.Judged.the-variants.{Fits, Fails}
-use Rattle.rules.specs.declared.Outcome.the-variants.{Stopped, Paused}
+use Rattle.rules.specs.declared.Stop.the-variants.{Unconditional, Conditional}
+use Rattle.rules.specs.declared.Outcome.the-variants.{Stops}
 use Rattle.rules.specs.declared.Operation.{Operation}
 use Rattle.rules.specs.declared.Operation.the-variants.{Reckon, Move, Go, Loop, Change, Read, Pch, Trace}
 use Rattle.rules.specs.declared.Reckoning.{Reckoning}
@@ -55,7 +56,7 @@ reckoned m c (Refused r) = undone r m
 
 -- on STOP it stops and shows B's word; either way the next order is at C
 abbrev pub condStopped : Bool → Machine → ℕ → ℕ → Answer
-condStopped true m b c = stops (Paused (wordAt (m .cells) b)) (goingTo m c)
+condStopped true m b c = stops (Stops Conditional (wordAt (m .cells) b)) (goingTo m c)
 condStopped false m b c = done (goingTo m c)
 
 -- minus, and not ten zeros
@@ -73,8 +74,8 @@ abbrev pub linked : Machine → ℕ → ℕ → Machine
 linked m b c = goingTo (stored m c (withAddress OfC (digitsIn (wordAt (m .cells) c)) b)) c
 
 unfoldable pub gone : Inputs → Machine → Going → ℕ → ℕ → Answer
-gone i m UncStop b c = stops (Stopped (wordAt (m .cells) b)) m
-gone i m CondStop b c = condStopped (i .stop) m b c
+gone i m UncStop b c = stops (Stops Unconditional (wordAt (m .cells) b)) m
+gone i m CondStop b c = condStopped (i .switches .stop) m b c
 gone i m TrSgn b c = done (signTransferred m b c)
 gone i m TrExp b c = done (exponentTransferred m b c)
 gone i m Tr b c = done (goingTo m c)

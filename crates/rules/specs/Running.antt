@@ -19,6 +19,7 @@ use Rattle.rules.specs.declared.Address.the-variants.{OfA, OfB, OfC}
 use Rattle.rules.specs.declared.Cell.{Cell}
 use Rattle.rules.specs.declared.Cell.the-variants.{Foreign, Owned}
 use Rattle.rules.specs.declared.State.{State}
+use Rattle.rules.specs.declared.Switches.{Switches}
 use Rattle.rules.specs.declared.Operation.{Operation}
 use Rattle.rules.specs.declared.Checked.{Checked}
 use Rattle.rules.specs.declared.Checked.the-variants.{Passes, Refuses}
@@ -129,7 +130,16 @@ runFrom i (suc k) m n =
       | false ↦ record { outcome = x .outcome; machine = x .machine; count = n + completed (x .outcome) }
     ]
 
--- ---- a call of run: what is answered, and what the lent drum, marks and output then hold
+-- ---- a call of run: what it is lent and given, what is answered, and what the lent drum, marks and output then hold
+
+pub record RunCall : Type 0 where
+  pub drum : List ℕ
+  pub marks : List ℕ
+  pub out : List ℕ
+  pub deck : List ℕ
+  pub state : State
+  pub budget : ℕ
+  pub switches : Switches
 
 pub record RunResult : Type 0 where
   pub ending : Ending
@@ -145,27 +155,27 @@ unfoldable pub over : List ℕ → List ℕ → List ℕ
 over sent out = sent ++ drop (length sent) out
 
 -- nothing is changed
-abbrev pub notRun : List ℕ → List ℕ → List ℕ → State → Bar → RunResult
-notRun drum marks out s b =
-    record { ending = NotRun b; count = 0; written = 0; state = s; drum = drum; marks = marks; out = out }
+abbrev pub notRun : RunCall → Bar → RunResult
+notRun c b =
+    record { ending = NotRun b; count = 0; written = 0; state = c .state; drum = c .drum; marks = c .marks; out = c .out }
 
-unfoldable pub ranAs : List ℕ → List ℕ → Course → RunResult
-ranAs drum out x =
+unfoldable pub ranAs : RunCall → Course → RunResult
+ranAs c x =
     record {
       ending = Ran (x .outcome);
       count = x .count;
       written = length (x .machine .sent);
       state = x .machine .state;
-      drum = overlay drum (x .machine .cells);
+      drum = overlay (c .drum) (x .machine .cells);
       marks = marksOf (x .machine .cells);
-      out = over (x .machine .sent) out;
+      out = over (x .machine .sent) (c .out);
     }
 
-abbrev pub begun : List ℕ → List ℕ → State → Machine
-begun drum marks s = record { cells = view drum marks; sent = []; state = s }
+abbrev pub begun : RunCall → Machine
+begun c = record { cells = view (c .drum) (c .marks); sent = []; state = c .state }
 
-abbrev pub inputs : List ℕ → List ℕ → Bool → Inputs
-inputs deck out stop = record { deck = deck; room = length out; stop = stop }
+abbrev pub inputs : RunCall → Inputs
+inputs c = record { deck = c .deck; room = length (c .out); switches = c .switches }
 
 -- Check 12. Mode and tracing are 0 or 1, and tracing is not on in plain mode. The reader stands behind the first-order card, at a
 -- card's start or the deck's end.
@@ -183,15 +193,13 @@ stateFits v deck first s budget =
     (both (leb (s .tracing) (s .mode))
     (both (isOwned (cellAt v 0)) (startsAt (length deck + 1) deck first (s .reader)))))))))
 
-unfoldable pub ranOn : List ℕ → List ℕ → List ℕ → List ℕ → State → ℕ → Bool → Deck → RunResult
-ranOn drum marks deck out s budget stop (Faulty f) = notRun drum marks out s (BadDeck f)
-ranOn drum marks deck out s budget stop (Good first) =
-    pick (stateFits (view drum marks) deck first s budget)
-    (ranAs drum out (runFrom (inputs deck out stop) budget (begun drum marks s) 0))
-    (notRun drum marks out s BadState)
+unfoldable pub ranOn : RunCall → Deck → RunResult
+ranOn c (Faulty f) = notRun c (BadDeck f)
+ranOn c (Good first) =
+    pick (stateFits (view (c .drum) (c .marks)) (c .deck) first (c .state) (c .budget))
+    (ranAs c (runFrom (inputs c) (c .budget) (begun c) 0))
+    (notRun c BadState)
 
 -- the checks 10, 11, 12 in their order, and then the run
-unfoldable pub ran : List ℕ → List ℕ → List ℕ → List ℕ → State → ℕ → Bool → RunResult
-ran drum marks deck out s budget stop =
-    pick (drumFits (length drum) marks (view drum marks)) (ranOn drum marks deck out s budget stop (deckOf deck))
-    (notRun drum marks out s BadDrum)
+unfoldable pub ran : RunCall → RunResult
+ran c = pick (drumFits (length (c .drum)) (c .marks) (view (c .drum) (c .marks))) (ranOn c (deckOf (c .deck))) (notRun c BadDrum)

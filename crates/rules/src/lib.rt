@@ -162,12 +162,22 @@ pub enum Judged {
     Fails(Refusal),
 }
 
+// The stops that an order makes.
+pub enum Stop {
+    Unconditional,
+    Conditional,
+}
+
 // What came of an order, and so of a run: it may go on, it stopped and shows a word, or the order was refused.
 pub enum Outcome {
     GoesOn,
-    Stopped(u64),
-    Paused(u64),
+    Stops(Stop, u64),
     Undone(Refusal),
+}
+
+// How the console's switches stand for a run: PROGRAMMED STOP, true on STOP.
+pub struct Switches {
+    pub stop: bool,
 }
 
 // Why a call of load or run does nothing at all.
