@@ -113,14 +113,13 @@ cell-again : (c : Cell) (d : ℕ) → cellOf (markOf c) (numberOver c d) ≡ c
 cell-again Foreign d = refl
 cell-again (Owned w) d = refl
 
--- the cell at an address, by its mark and its number
-pub seen-at : (ds : List ℕ) (v : List Cell) (a : ℕ) → a < length ds → a < length v
-    → cellOf (getD (marksOf v) a 0) (getD (overlay ds v) a 0) ≡ cellAt v a
-unfolding marksOf overlay
-seen-at ds [] a h k = absurd (not-suc-le-zero k)
-seen-at [] (c ∷ v) a h k = absurd (not-suc-le-zero h)
-seen-at (d ∷ ds) (c ∷ v) zero h k = cell-again c d
-seen-at (d ∷ ds) (c ∷ v) (suc a) h k = seen-at ds v a (le-of-suc-le-suc h) (le-of-suc-le-suc k)
+-- the cells that drum and marks show are the cells that were laid over
+pub view-again : (ds : List ℕ) (v : List Cell) → length ds ≡ length v → view (overlay ds v) (marksOf v) ≡ v
+unfolding view marksOf overlay
+view-again [] [] e = refl
+view-again [] (c ∷ v) e = let z : ⊥ = omega arith in absurd z
+view-again (d ∷ ds) [] e = let z : ⊥ = omega arith in absurd z
+view-again (d ∷ ds) (c ∷ v) e = simp (cell-again c d, view-again ds v (suc-inj e))
 
 -- a store
 pub marks-store : (v : List Cell) (a w : ℕ) → set (marksOf v) a 1 ≡ marksOf (store v a w)

@@ -1,7 +1,7 @@
 -- `is_cell`: beside the mark 0 any number will do. Assumes nothing.
-use Rattle.machine.proofs.FitDrum.{unmarked-fits, no-mark, marked-fits}
-use Rattle.machine.proofs.checking.is_cell.Statement.{statement}
-use Rattle.machine.proofs.checking.is_cell.Tie as tie
+use Rattle.drum.proofs.FitDrum.{unmarked-fits, no-mark, marked-fits}
+use Rattle.drum.proofs.checking.is_cell.Statement.{statement}
+use Rattle.drum.proofs.checking.is_cell.Tie as tie
 
 returns : tie.Need-returns
 returns c = unmarked-fits (c .before .args .mark) (c .before .args .number) (c .if1 .taken)

@@ -3,9 +3,9 @@ use mathlib.Core.Path.{sym, _∙_}
 use borrow.Author.Tests.{not-true, not-false}
 use borrow.Author.Needs.{needs}
 use Prim.Native.Nat.{_-_}
-use Rattle.machine.proofs.FitDrum.{short-drum, short-marks, Checking, checking-begins, checking-bad, checking-more, checking-end}
-use Rattle.machine.proofs.checking.is_fit.Statement.{statement}
-use Rattle.machine.proofs.checking.is_fit.Tie as tie
+use Rattle.drum.proofs.FitDrum.{short-drum, short-marks, Checking, checking-begins, checking-bad, checking-more, checking-end}
+use Rattle.drum.proofs.checking.is_fit.Statement.{statement}
+use Rattle.drum.proofs.checking.is_fit.Tie as tie
 
 abbrev Inv-loop : tie.InvT-loop
 Inv-loop drum marks a₀ a = Checking drum marks a

@@ -12,7 +12,7 @@ use Rattle.rules.specs.declared.Cell.{Cell}
 use Rattle.rules.specs.declared.Cell.the-variants.{Foreign, Owned}
 use Rattle.rules.proofs.Tests.{both-first, both-second}
 use Rattle.rules.proofs.Views.{fit, overlay-view, marks-again, length-view}
-use Rattle.machine.specs.Lent.{Words, Holds}
+use Rattle.drum.specs.Held.{Words, Holds}
 
 all-words : (v : List Cell) → wordsFit v ≡ true → Words v
 unfolding wordsFit

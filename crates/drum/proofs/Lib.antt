@@ -1,0 +1,4 @@
+pub mod Cells
+pub mod Begins
+pub mod Runs
+mod FitDrum
