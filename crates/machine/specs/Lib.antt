@@ -1,4 +1,1 @@
 pub mod Lent
-pub mod Rows
-pub mod Refusals
-pub mod Suits

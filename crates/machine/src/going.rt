@@ -1,35 +1,32 @@
 // Stops and transfers.
 ghost use mathlib.Core.Path.{_≡_};
-ghost use mathlib.Core.List.{List};
-ghost use Prim.Native.Nat.{ℕ, _+_, _<_, _≤_};
+ghost use Prim.Native.Nat.{_<_, _≤_};
 ghost use lib.Dec.{leb};
 ghost use Rattle.rules.specs.Words.{pick, digitsIn, exponentIn, withAddress};
 ghost use Rattle.rules.specs.declared.Address.the-variants.{OfC};
 ghost use Rattle.rules.specs.Orders.{isNegative, gone, linked};
-ghost use Rattle.rules.specs.Machine.{done};
-ghost use Rattle.machine.specs.Lent.{Ready, lent, DoesQuietly};
-use crate::Stepped;
+ghost use Rattle.rules.specs.Machine.{Inputs, done};
+ghost use Rattle.machine.specs.Lent.{Fitting, DoesQuietly};
+use crate::rows::go_on;
+use crate::rows::go_to;
+use crate::rows::location;
 use rules::Going;
 use rules::Outcome;
-use rules::State;
+use rules::Stop;
+use rules::Switches;
 
 // TR SGN: where to go, by the word in cell 000.
 fn sign_target(w: u64, b: usize, c: usize) -> usize
     ensures { λ r. ⌜ r ≡ pick (isNegative w) c b ⌝ }
 {
-    if w / 10_000_000_000 == 1 {
-        if 0 < w % 10_000_000_000 {
-            return c;
-        }
-    }
-    b
+    if words::is_negative(w) { c } else { b }
 }
 
 // TR EXP: where to go, by the last two digits of cell 000.
 fn exponent_target(w: u64, b: usize, c: usize, next: usize) -> usize
     ensures { λ r. ⌜ r ≡ pick (leb b (exponentIn w)) c next ⌝ }
 {
-    let x = (w % 100) as usize;
+    let x = words::exponent_in(w);
     if b <= x { c } else { next }
 }
 
@@ -42,102 +39,69 @@ fn linked_word(w: u64, b: usize) -> u64
 }
 
 // TR SUBR: the order at c is changed, and is the next.
-fn link(drum: &mut [u64], marks: &mut [u8], at: usize, state: State, b: usize, c: usize) -> Stepped
-    requires { ⌜ Ready (now drum) (now marks) × (b < 1000) × (c < 1000) ⌝ }
-    ensures { λ r. ⌜ DoesQuietly (now (drum .entry)) (now (marks .entry)) at state (now (drum .exit)) (now (marks .exit)) r
-        (λ room m. done (linked m b c)) ⌝ }
+fn link(drum: &mut [u64], marks: &mut [u8], row: &mut [u64; 10], b: usize, c: usize)
+    requires { ⌜ (b < 1000) × (c < 1000) ⌝ }
+    ensures { λ _. ⌜ DoesQuietly (now (drum .entry)) (now (marks .entry)) (now (row .entry))
+        (now (drum .exit)) (now (marks .exit)) (now (row .exit)) Outcome.GoesOn (λ m. done (linked m b c)) ⌝ }
 {
-    let w = crate::memory::word(drum, marks, c);
+    let w = drum::word(drum, marks, c);
     let x = linked_word(w, b);
-    crate::memory::keep(drum, marks, c, x);
-    let t = crate::states::went_to(state, c);
-    Stepped {
-        outcome: Outcome::GoesOn,
-        at,
-        state: t,
-    }
+    drum::keep(drum, marks, c, x);
+    go_to(row, c);
 }
 
 // One stop or transfer.
 pub fn go(
     drum: &mut [u64],
     marks: &mut [u8],
-    at: usize,
-    state: State,
-    stop: bool,
+    row: &mut [u64; 10],
+    switches: Switches,
     g: Going,
     b: usize,
     c: usize,
-) -> Stepped
-    requires { ⌜ Ready (now drum) (now marks) × (b < 1000) × (c < 1000) × (state .location < 1000) ⌝ }
-    ensures { λ r. ⌜ ((deck : List ℕ) →
-        DoesQuietly (now (drum .entry)) (now (marks .entry)) at state (now (drum .exit)) (now (marks .exit)) r
-        (λ room m. gone (lent deck stop room) m g b c)) ⌝ }
+) -> Outcome
+    requires { ⌜ Fitting (now row) × (b < 1000) × (c < 1000) ⌝ }
+    ensures { λ r. ⌜ ((i : Inputs) → i .switches ≡ switches → DoesQuietly (now (drum .entry)) (now (marks .entry)) (now (row .entry))
+        (now (drum .exit)) (now (marks .exit)) (now (row .exit)) r (λ m. gone i m g b c)) ⌝ }
 {
     match g {
         Going::UncStop => {
-            let w = crate::memory::word(drum, marks, b);
-            Stepped {
-                outcome: Outcome::Stopped(w),
-                at,
-                state,
-            }
+            let w = drum::word(drum, marks, b);
+            Outcome::Stops(Stop::Unconditional, w)
         }
         Going::CondStop => {
-            let w = crate::memory::word(drum, marks, b);
-            let t = crate::states::went_to(state, c);
-            if stop {
-                Stepped {
-                    outcome: Outcome::Paused(w),
-                    at,
-                    state: t,
-                }
+            let w = drum::word(drum, marks, b);
+            go_to(row, c);
+            if switches.stop {
+                Outcome::Stops(Stop::Conditional, w)
             } else {
-                Stepped {
-                    outcome: Outcome::GoesOn,
-                    at,
-                    state: t,
-                }
+                Outcome::GoesOn
             }
         }
         Going::TrSgn => {
-            let w = crate::memory::word(drum, marks, 0);
+            let w = drum::word(drum, marks, 0);
             let l = sign_target(w, b, c);
-            let t = crate::states::went_to(state, l);
-            Stepped {
-                outcome: Outcome::GoesOn,
-                at,
-                state: t,
-            }
+            go_to(row, l);
+            Outcome::GoesOn
         }
         Going::TrExp => {
-            let w = crate::memory::word(drum, marks, 0);
-            let next = state.location + 1;
+            let w = drum::word(drum, marks, 0);
+            let next = location(row) + 1;
             let l = exponent_target(w, b, c, next);
-            let t = crate::states::went_to(state, l);
-            Stepped {
-                outcome: Outcome::GoesOn,
-                at,
-                state: t,
-            }
+            go_to(row, l);
+            Outcome::GoesOn
         }
         Going::Tr => {
-            let t = crate::states::went_to(state, c);
-            Stepped {
-                outcome: Outcome::GoesOn,
-                at,
-                state: t,
-            }
+            go_to(row, c);
+            Outcome::GoesOn
         }
-        Going::TrSubr => link(drum, marks, at, state, b, c),
+        Going::TrSubr => {
+            link(drum, marks, row, b, c);
+            Outcome::GoesOn
+        }
         Going::Noop => {
-            let next = state.location + 1;
-            let t = crate::states::went_to(state, next);
-            Stepped {
-                outcome: Outcome::GoesOn,
-                at,
-                state: t,
-            }
+            go_on(row);
+            Outcome::GoesOn
         }
     }
 }

@@ -2,12 +2,16 @@
 ghost use mathlib.Core.Path.{_≡_};
 ghost use mathlib.Core.List.{List};
 ghost use Prim.Native.Nat.{ℕ, _+_, _<_, _≤_, max};
+ghost use lib.ListN.{getD, set};
 ghost use Rattle.rules.specs.Orders.{raise, named, looped};
 ghost use Rattle.rules.specs.Machine.{done};
-ghost use Rattle.machine.specs.Lent.{Steady, DoesQuietly};
-use crate::Stepped;
+ghost use Rattle.machine.specs.Lent.{Fitting, DoesQuietly};
+use crate::rows::COUNT_A;
+use crate::rows::COUNT_B;
+use crate::rows::COUNT_C;
+use crate::rows::go_on;
+use crate::rows::go_to;
 use rules::Outcome;
-use rules::State;
 
 // A count, one up where the loop names it.
 fn raised_by(x: bool, n: u64) -> u64
@@ -40,36 +44,30 @@ fn larger(a: u64, b: u64) -> u64
     a
 }
 
-// The named counts are raised; while the largest of them is below b the next order is at c, and then the box is cleared.
-pub fn go_round(at: usize, state: State, x: bool, y: bool, z: bool, b: usize, c: usize) -> Stepped
-    requires { ⌜ Steady (state .problem) (state .counts) × (b < 1000) × (state .location < 1000) ⌝ }
-    ensures { λ r. ⌜ ((drum marks : List ℕ) → DoesQuietly drum marks at state drum marks r (λ room m. done (looped m x y z b c))) ⌝ }
+// The loop box gets three counts.
+fn put_counts(row: &mut [u64; 10], x: u64, y: u64, z: u64)
+    ensures { λ _. ⌜ now (row .exit) ≡ set (set (set (now (row .entry)) 1 x) 2 y) 3 z ⌝ }
 {
-    let counts = state.counts;
-    let p = counts[0];
-    let q = counts[1];
-    let r = counts[2];
+    row[COUNT_A] = x;
+    row[COUNT_B] = y;
+    row[COUNT_C] = z;
+}
+
+// The named counts are raised; while the largest of them is below b the next order is at c, and then the box is cleared.
+pub fn go_round(row: &mut [u64; 10], x: bool, y: bool, z: bool, b: usize, c: usize)
+    requires { ⌜ Fitting (now row) × (b < 1000) ⌝ }
+    ensures { λ _. ⌜ ((drum marks : List ℕ) → DoesQuietly drum marks (now (row .entry)) drum marks (now (row .exit)) Outcome.GoesOn
+        (λ m. done (looped m x y z b c))) ⌝ }
+{
+    let p = row[COUNT_A];
+    let q = row[COUNT_B];
+    let r = row[COUNT_C];
     let most = larger(compared(x, p), larger(compared(y, q), compared(z, r)));
     if most < b as u64 {
-        let s = crate::states::counting_by(
-            state,
-            raised_by(x, p),
-            raised_by(y, q),
-            raised_by(z, r),
-        );
-        let t = crate::states::went_to(s, c);
-        return Stepped {
-            outcome: Outcome::GoesOn,
-            at,
-            state: t,
-        };
+        put_counts(row, raised_by(x, p), raised_by(y, q), raised_by(z, r));
+        go_to(row, c);
+        return;
     }
-    let s = crate::states::counting_by(state, 0, 0, 0);
-    let next = state.location + 1;
-    let t = crate::states::went_to(s, next);
-    Stepped {
-        outcome: Outcome::GoesOn,
-        at,
-        state: t,
-    }
+    put_counts(row, 0, 0, 0);
+    go_on(row);
 }

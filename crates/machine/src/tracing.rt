@@ -1,59 +1,41 @@
 // Orders about tracing.
 ghost use mathlib.Core.Path.{_≡_};
-ghost use Prim.Native.Nat.{_+_, _<_};
-ghost use Rattle.rules.specs.Orders.{tracingTo, retraced};
+ghost use lib.Dec.{eqb};
+ghost use lib.ListN.{getD, set};
+ghost use Rattle.rules.specs.Words.{pick};
+ghost use Rattle.rules.specs.Orders.{retraced};
 ghost use Rattle.rules.specs.Machine.{done};
-ghost use Rattle.machine.specs.Lent.{Ready, DoesQuietly};
-use crate::Stepped;
+ghost use Rattle.machine.specs.Lent.{Fitting, DoesQuietly};
+use crate::rows::MODE;
+use crate::rows::TRACING;
+use crate::rows::go_on;
+use crate::rows::location;
 use rules::Outcome;
-use rules::State;
 use rules::Tracing;
 
 // Tracing is turned on or off in traced mode alone.
-fn turned(s: State, t: u64) -> State
-    ensures { λ r. ⌜ r ≡ tracingTo s t ⌝ }
+fn turn(row: &mut [u64; 10], t: u64)
+    ensures { λ _. ⌜ now (row .exit) ≡ pick (eqb (getD (now (row .entry)) 7 0) 1) (set (now (row .entry)) 8 t) (now (row .entry)) ⌝ }
 {
-    if s.mode == 1 {
-        return crate::states::tracing_set(s, t);
+    if row[MODE] == 1 {
+        row[TRACING] = t;
     }
-    s
 }
 
-pub fn retrace(drum: &mut [u64], marks: &mut [u8], at: usize, state: State, k: Tracing) -> Stepped
-    requires { ⌜ Ready (now drum) (now marks) × (state .location < 1000) ⌝ }
-    ensures { λ r. ⌜ DoesQuietly (now (drum .entry)) (now (marks .entry)) at state (now (drum .exit)) (now (marks .exit)) r
-        (λ room m. done (retraced m k)) ⌝ }
+// Tracing is turned on or off, and on to the next order; ST TR ERAS becomes a NOOP in its own cell.
+pub fn retrace(drum: &mut [u64], marks: &mut [u8], row: &mut [u64; 10], k: Tracing)
+    requires { ⌜ Fitting (now row) ⌝ }
+    ensures { λ _. ⌜ DoesQuietly (now (drum .entry)) (now (marks .entry)) (now (row .entry))
+        (now (drum .exit)) (now (marks .exit)) (now (row .exit)) Outcome.GoesOn (λ m. done (retraced m k)) ⌝ }
 {
-    let l = state.location;
-    let next = l + 1;
     match k {
-        Tracing::StartTr => {
-            let s = turned(state, 1);
-            let t = crate::states::went_to(s, next);
-            Stepped {
-                outcome: Outcome::GoesOn,
-                at,
-                state: t,
-            }
-        }
-        Tracing::StopTr => {
-            let s = turned(state, 0);
-            let t = crate::states::went_to(s, next);
-            Stepped {
-                outcome: Outcome::GoesOn,
-                at,
-                state: t,
-            }
-        }
+        Tracing::StartTr => turn(row, 1),
+        Tracing::StopTr => turn(row, 0),
         Tracing::StTrEras => {
-            crate::memory::keep(drum, marks, l, 454_000_000);
-            let s = turned(state, 1);
-            let t = crate::states::went_to(s, next);
-            Stepped {
-                outcome: Outcome::GoesOn,
-                at,
-                state: t,
-            }
+            let l = location(row);
+            drum::keep(drum, marks, l, 454_000_000);
+            turn(row, 1);
         }
     }
+    go_on(row);
 }

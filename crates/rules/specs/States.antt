@@ -21,3 +21,7 @@ stateIn row =
 abbrev pub numbersOf : State → List ℕ
 numbersOf s =
     s .location ∷ countA s ∷ countB s ∷ countC s ∷ s .counter ∷ s .problem ∷ s .reader ∷ s .mode ∷ s .tracing ∷ []
+
+-- the state of a machine that nothing was loaded on: nine zeros
+abbrev pub noState : State
+noState = stateIn []

@@ -1,16 +1,21 @@
--- `machine::going::sign_target` meets its contract. Assumes nothing.
-use borrow.Author.Tests.{eq-eqb, ne-eqb, lt-ltb, le-ltb}
+use borrow.Author.Needs.{needs}
 use Rattle.machine.proofs.going.sign_target.Statement.{statement}
 use Rattle.machine.proofs.going.sign_target.Tie as tie
+use Rattle.machine.proofs.going.sign_target.Reads as reads
+use Rattle.machine.proofs.going.sign_target.Lts as lts
+use Rattle.words.proofs.is_negative.Reads as is-negative-reads
 
+-- src/going.rt:22:8
+is-negative-requires : tie.Need-is-negative-requires
+is-negative-requires c κs = search needs
+
+-- src/going.rt:19:1
 returns : tie.Need-returns
-returns c = simp (eq-eqb _ _ (c .before .if1 .taken), lt-ltb _ _ (c .if2 .taken))
+returns c = ?
 
+-- src/going.rt:19:1
 returns-2 : tie.Need-returns-2
-returns-2 c = simp (eq-eqb _ _ (c .before .if1 .taken), le-ltb _ _ (c .if2 .left))
-
-returns-3 : tie.Need-returns-3
-returns-3 c = simp (ne-eqb _ _ (c .if1 .left))
+returns-2 c = ?
 
 pub sign-target-spec : {M : Type 1} → statement M
-sign-target-spec = tie.close (tie.spec returns returns-2 returns-3)
+sign-target-spec = tie.close (tie.spec is-negative-requires returns returns-2)

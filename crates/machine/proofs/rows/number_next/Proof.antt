@@ -1,0 +1,28 @@
+-- `machine::rows::number_next`: a counter that is taken modulo 10,000 first comes to the same. Assumes nothing.
+use Prim.Native.Nat.{ℕ, _+_, _%_}
+use mathlib.Core.Path.{_≡_, ap}
+use mathlib.Core.List.{List}
+use native.Mathlib.Omega.{arith}
+use lib.ListN.{getD, set}
+use borrow.Author.Needs.{needs}
+use Rattle.machine.proofs.rows.number_next.Statement.{statement}
+use Rattle.machine.proofs.rows.number_next.Tie as tie
+
+element-copy-out-row : tie.Need-element-copy-out-row
+element-copy-out-row c = search needs
+
+add-row : tie.Need-add-row
+add-row c = search needs
+
+element-write-row : tie.Need-element-write-row
+element-write-row c = search needs
+
+returns : tie.Need-returns
+returns c =
+    let start : tie.Start = search in
+    let row : List ℕ = start .args .row .now in
+    let e : (getD row 4 0 % 10000 + 1) % 10000 ≡ (getD row 4 0 + 1) % 10000 = omega arith in
+    ap (λ (x : ℕ). set row 4 x) e
+
+pub number-next-spec : {M : Type 1} → statement M
+number-next-spec = tie.close (tie.spec element-copy-out-row add-row element-write-row returns)
