@@ -1,1 +1,5 @@
 mod Shown
+mod Stores
+mod Changes
+mod Loops
+mod Tracings

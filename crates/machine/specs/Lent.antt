@@ -1,10 +1,12 @@
 -- That the lent runs show a machine of the rules: drum and marks hold its cells, the output is the bytes written over some old output, and
 -- ten numbers are its state and how many bytes are written. The contracts inside this crate are said through it, each for any old drum,
 -- any old output and any machine, so that they chain. Assumes nothing.
-use Prim.Native.Nat.{ℕ, _≤_}
+use Prim.Native.Nat.{ℕ, _+_, _≤_}
 use mathlib.Core.Path.{_≡_}
 use mathlib.Core.List.{List, [], _∷_}
-use lib.ListN.{length, getD}
+use lib.Dec.{eqb}
+use lib.ListN.{length, getD, set}
+use Rattle.rules.specs.Words.{pick}
 use Rattle.rules.specs.Machine.{Machine, Inputs, Answer, countA, countB, countC}
 use Rattle.rules.specs.Running.{over, Course, RunResult}
 use Rattle.rules.specs.Loads.{LoadResult}
@@ -38,6 +40,11 @@ pub record Fitting (row : List ℕ) : Type 0 where
   pub b-fits : getD row 2 0 ≤ 999
   pub c-fits : getD row 3 0 ≤ 999
   pub problem-fits : getD row 5 0 ≤ 999
+
+-- the ten numbers after an order that turns tracing: on to the next order, and in traced mode tracing is t
+abbrev pub Turned : List ℕ → ℕ → List ℕ → Type 0
+Turned row t row′ =
+    row′ ≡ pick (eqb (getD row 7 0) 1) (set (set row 0 (getD row 0 0 + 1)) 8 t) (set row 0 (getD row 0 0 + 1))
 
 -- problem number and counts are as a run may have them
 pub record Steady (problem : ℕ) (counts : List ℕ) : Type 0 where

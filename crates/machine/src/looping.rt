@@ -64,10 +64,10 @@ pub fn go_round(row: &mut [u64; 10], x: bool, y: bool, z: bool, b: usize, c: usi
     let r = row[COUNT_C];
     let most = larger(compared(x, p), larger(compared(y, q), compared(z, r)));
     if most < b as u64 {
-        put_counts(row, raised_by(x, p), raised_by(y, q), raised_by(z, r));
         go_to(row, c);
+        put_counts(row, raised_by(x, p), raised_by(y, q), raised_by(z, r));
         return;
     }
-    put_counts(row, 0, 0, 0);
     go_on(row);
+    put_counts(row, 0, 0, 0);
 }

@@ -1,11 +1,8 @@
 // Orders about tracing.
 ghost use mathlib.Core.Path.{_≡_};
-ghost use lib.Dec.{eqb};
-ghost use lib.ListN.{getD, set};
-ghost use Rattle.rules.specs.Words.{pick};
 ghost use Rattle.rules.specs.Orders.{retraced};
 ghost use Rattle.rules.specs.Machine.{done};
-ghost use Rattle.machine.specs.Lent.{Fitting, DoesQuietly};
+ghost use Rattle.machine.specs.Lent.{Fitting, Turned, DoesQuietly};
 use crate::rows::MODE;
 use crate::rows::TRACING;
 use crate::rows::go_on;
@@ -13,16 +10,20 @@ use crate::rows::location;
 use rules::Outcome;
 use rules::Tracing;
 
-// Tracing is turned on or off in traced mode alone.
+// On to the next order, and tracing is turned on or off in traced mode.
 fn turn(row: &mut [u64; 10], t: u64)
-    ensures { λ _. ⌜ now (row .exit) ≡ pick (eqb (getD (now (row .entry)) 7 0) 1) (set (now (row .entry)) 8 t) (now (row .entry)) ⌝ }
+    requires { ⌜ Fitting (now row) ⌝ }
+    ensures { λ _. ⌜ Turned (now (row .entry)) t (now (row .exit)) ⌝ }
 {
     if row[MODE] == 1 {
+        go_on(row);
         row[TRACING] = t;
+        return;
     }
+    go_on(row);
 }
 
-// Tracing is turned on or off, and on to the next order; ST TR ERAS becomes a NOOP in its own cell.
+// One order about tracing. ST TR ERAS becomes a NOOP in its own cell.
 pub fn retrace(drum: &mut [u64], marks: &mut [u8], row: &mut [u64; 10], k: Tracing)
     requires { ⌜ Fitting (now row) ⌝ }
     ensures { λ _. ⌜ DoesQuietly (now (drum .entry)) (now (marks .entry)) (now (row .entry))
@@ -37,5 +38,4 @@ pub fn retrace(drum: &mut [u64], marks: &mut [u8], row: &mut [u64; 10], k: Traci
             turn(row, 1);
         }
     }
-    go_on(row);
 }

@@ -1,40 +1,45 @@
+-- `machine::changing::change`: the word at b is changed as the rules change it, and stored. Assumes nothing.
+use mathlib.Core.Path.{_≡_, ap, _∙_}
+use native.Mathlib.Omega.{arith}
+use Prim.Native.Nat.{ℕ, _≤_}
+use Rattle.rules.specs.Orders.{changedWord}
+use Rattle.machine.proofs.Shown.{word-is}
+use Rattle.machine.proofs.Stores.{stored-on}
 use borrow.Author.Needs.{needs}
 use Rattle.machine.proofs.changing.change.Statement.{statement}
 use Rattle.machine.proofs.changing.change.Tie as tie
-use Rattle.machine.proofs.changing.change.Reads as reads
-use Rattle.machine.proofs.changing.change.Lts as lts
-use Rattle.drum.proofs.keep.Reads as keep-reads
-use Rattle.drum.proofs.word.Reads as word-reads
-use Rattle.machine.proofs.changing.changed_word.Reads as changed-word-reads
-use Rattle.machine.proofs.rows.go_on.Reads as go-on-reads
 
--- src/changing.rt:52:9
 word-requires : tie.Need-word-requires
 word-requires c κs = search needs
 
--- src/changing.rt:53:9
 changed-word-requires : tie.Need-changed-word-requires
-changed-word-requires c κs = ?
+changed-word-requires c κs =
+    let start : tie.Start = search in
+    (rw (c .word .ensures) (start .pre .0 (start .args .b)), search needs)
 
--- src/changing.rt:54:5
 keep-requires : tie.Need-keep-requires
 keep-requires c κs = search needs
 
--- src/changing.rt:55:5
 go-on-requires : tie.Need-go-on-requires
 go-on-requires c κs = search needs
 
--- src/changing.rt:39:1
 same-length : tie.Need-same-length
 same-length c = search needs
 
--- src/changing.rt:39:1
 same-length-2 : tie.Need-same-length-2
 same-length-2 c = search needs
 
--- src/changing.rt:39:1
 returns : tie.Need-returns
-returns c = ?
+returns c =
+    λ drum₀ out₀ out m h.
+    let start : tie.Start = search in
+    let word : tie.After-word = search in
+    let new : tie.After-changed-word = search in
+    let kept : tie.After-keep = search in
+    let a = start .args in
+    stored-on h (a .b) (start .pre .2) (new .changed-word .ensures .1)
+    (new .changed-word .ensures .0 ∙ ap (λ (w : ℕ). changedWord (a .k) (a .x) w (a .c)) (word-is (h .memory) (a .b) (word .word .ensures)))
+    (kept .keep .ensures) (c .go-on .ensures)
 
 pub change-spec : {M : Type 1} → statement M
 change-spec =

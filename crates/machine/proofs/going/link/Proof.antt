@@ -1,40 +1,43 @@
+-- `machine::going::link`: the order at c is changed and stored, and is the next. Assumes nothing.
+use mathlib.Core.Path.{_≡_, ap, _∙_}
+use Prim.Native.Nat.{ℕ}
+use Rattle.rules.specs.Words.{digitsIn, withAddress}
+use Rattle.rules.specs.declared.Address.the-variants.{OfC}
+use Rattle.machine.proofs.Shown.{word-is}
+use Rattle.machine.proofs.Stores.{stored-went}
 use borrow.Author.Needs.{needs}
 use Rattle.machine.proofs.going.link.Statement.{statement}
 use Rattle.machine.proofs.going.link.Tie as tie
-use Rattle.machine.proofs.going.link.Reads as reads
-use Rattle.machine.proofs.going.link.Lts as lts
-use Rattle.drum.proofs.keep.Reads as keep-reads
-use Rattle.drum.proofs.word.Reads as word-reads
-use Rattle.machine.proofs.going.linked_word.Reads as linked-word-reads
-use Rattle.machine.proofs.rows.go_to.Reads as go-to-reads
 
--- src/going.rt:47:9
 word-requires : tie.Need-word-requires
 word-requires c κs = search needs
 
--- src/going.rt:48:9
 linked-word-requires : tie.Need-linked-word-requires
 linked-word-requires c κs = search needs
 
--- src/going.rt:49:5
 keep-requires : tie.Need-keep-requires
 keep-requires c κs = search needs
 
--- src/going.rt:50:5
 go-to-requires : tie.Need-go-to-requires
 go-to-requires c κs = search needs
 
--- src/going.rt:42:1
 same-length : tie.Need-same-length
 same-length c = search needs
 
--- src/going.rt:42:1
 same-length-2 : tie.Need-same-length-2
 same-length-2 c = search needs
 
--- src/going.rt:42:1
 returns : tie.Need-returns
-returns c = ?
+returns c =
+    λ drum₀ out₀ out m h.
+    let start : tie.Start = search in
+    let word : tie.After-word = search in
+    let new : tie.After-linked-word = search in
+    let kept : tie.After-keep = search in
+    let a = start .args in
+    stored-went h (a .c) (start .pre .1) (new .linked-word .ensures .1)
+    (new .linked-word .ensures .0 ∙ ap (λ (w : ℕ). withAddress OfC (digitsIn w) (a .b)) (word-is (h .memory) (a .c) (word .word .ensures)))
+    (kept .keep .ensures) (a .c) (c .go-to .ensures)
 
 pub link-spec : {M : Type 1} → statement M
 link-spec =

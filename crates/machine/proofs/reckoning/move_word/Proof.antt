@@ -1,30 +1,39 @@
+-- `machine::reckoning::move_word`: the result is the word at b. Assumes nothing.
+use mathlib.Core.Path.{subst}
+use Prim.Native.Nat.{ℕ}
+use Rattle.rules.specs.Machine.{done, onward}
+use Rattle.rules.specs.Orders.{resultAt}
+use Rattle.rules.specs.declared.Outcome.the-variants.{GoesOn}
+use Rattle.machine.specs.Lent.{Did}
+use Rattle.machine.proofs.Shown.{word-is}
 use borrow.Author.Needs.{needs}
 use Rattle.machine.proofs.reckoning.move_word.Statement.{statement}
 use Rattle.machine.proofs.reckoning.move_word.Tie as tie
-use Rattle.machine.proofs.reckoning.move_word.Reads as reads
-use Rattle.machine.proofs.reckoning.move_word.Lts as lts
-use Rattle.drum.proofs.word.Reads as word-reads
-use Rattle.machine.proofs.reckoning.store_result.Reads as store-result-reads
 
--- src/reckoning.rt:73:9
 word-requires : tie.Need-word-requires
 word-requires c κs = search needs
 
--- src/reckoning.rt:74:5
 store-result-requires : tie.Need-store-result-requires
-store-result-requires c κs = ?
+store-result-requires c κs =
+    let start : tie.Start = search in
+    let word : tie.After-word = search in
+    (start .pre .1, start .pre .2, rw (word .word .ensures) (start .pre .0 (start .args .b)))
 
--- src/reckoning.rt:68:1
 same-length : tie.Need-same-length
 same-length c = search needs
 
--- src/reckoning.rt:68:1
 same-length-2 : tie.Need-same-length-2
 same-length-2 c = search needs
 
--- src/reckoning.rt:68:1
 returns : tie.Need-returns
-returns c = ?
+returns c =
+    λ drum₀ out₀ out m h.
+    let start : tie.Start = search in
+    let word : tie.After-word = search in
+    let kept : tie.After-store-result = search in
+    let r = kept .store-result in
+    subst (λ (w : ℕ). Did drum₀ out₀ (r .last .0) (r .last .1 .0) out (r .last .1 .1 .0) GoesOn (done (onward (resultAt m (start .args .c) w))))
+    (word-is (h .memory) (start .args .b) (word .word .ensures)) (r .ensures drum₀ out₀ out m h)
 
 pub move-word-spec : {M : Type 1} → statement M
 move-word-spec =

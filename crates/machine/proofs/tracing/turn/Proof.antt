@@ -1,24 +1,44 @@
+-- `machine::tracing::turn`: by the mode. Assumes nothing.
+use mathlib.Core.Path.{_≡_, sym, ap, _∙_}
+use mathlib.Core.List.{List}
+use Prim.Native.Nat.{ℕ}
+use lib.ListN.{set}
+use borrow.Author.Tests.{eq-eqb, ne-eqb}
 use borrow.Author.Needs.{needs}
 use Rattle.machine.proofs.tracing.turn.Statement.{statement}
 use Rattle.machine.proofs.tracing.turn.Tie as tie
-use Rattle.machine.proofs.tracing.turn.Reads as reads
-use Rattle.machine.proofs.tracing.turn.Lts as lts
 
--- src/tracing.rt:19:8
 element-copy-out-if1 : tie.Need-element-copy-out-if1
 element-copy-out-if1 c = search needs
 
--- src/tracing.rt:20:9
+go-on-requires : tie.Need-go-on-requires
+go-on-requires c κs = search needs
+
 element-write-row : tie.Need-element-write-row
 element-write-row c = search needs
 
--- src/tracing.rt:16:1
 returns : tie.Need-returns
-returns c = ?
+returns c =
+    let start : tie.Start = search in
+    let test : tie.Then1 = search in
+    let gone : tie.After-go-on = search in
+    simp (eq-eqb _ _ (test .if1 .taken)) (ap (λ (r : List ℕ). set r 8 (start .args .t)) (gone .go-on .ensures))
 
--- src/tracing.rt:16:1
+go-on-requires-2 : tie.Need-go-on-requires-2
+go-on-requires-2 c κs = search needs
+
 returns-2 : tie.Need-returns-2
-returns-2 c = ?
+returns-2 c =
+    let test : tie.Else1 = search in
+    simp (ne-eqb _ _ (test .if1 .left)) (c .go-on2 .ensures)
 
 pub turn-spec : {M : Type 1} → statement M
-turn-spec = tie.close (tie.spec element-copy-out-if1 element-write-row returns returns-2)
+turn-spec =
+    tie.close
+    (tie.spec
+    element-copy-out-if1
+    go-on-requires
+    element-write-row
+    returns
+    go-on-requires-2
+    returns-2)
