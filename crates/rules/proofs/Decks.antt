@@ -2,13 +2,17 @@
 use Prim.Native.Nat.{ℕ, zero, suc, _+_, _*_, _≤_, _<_}
 use native.Mathlib.Omega.{arith}
 use mathlib.Core.Path.{_≡_, refl, sym, ap, _∙_}
+use mathlib.Core.Logic.{⊎-elim}
 use mathlib.Core.List.{List, [], _∷_}
 use lib.ListN.{length, drop, length-drop, drop-of-length-le}
 use lib.Seq.{drop-drop}
+use types.Run.{OneOf}
+use denote.Enum.Declared.{tagOf}
 use Rattle.rules.specs.Cards.{cardOf, wordIn, wordPlace}
 use Rattle.rules.specs.Decks.{cardAt, cardSize, Piece, cutFrom, cardsFrom, DataCard, dataIn, dataFrom}
 use Rattle.rules.specs.declared.Card.{Card}
 use Rattle.rules.specs.declared.Card.the-variants.{Data, First, Bad, End}
+use Rattle.rules.proofs.Card.{the-type}
 use Rattle.rules.proofs.CardTrips.{data-read}
 use Rattle.rules.proofs.Fields.{word-below}
 
@@ -39,14 +43,14 @@ cards-next deck at size e l =
     cut-whole at size (drop at deck) e l
     ∙ ap (λ (d : List ℕ). piece at (drop at deck) ∷ cutFrom 0 (at + size) d) (drop-drop size at deck)
 
--- a card with a fault is the last
-cut-last : (at : ℕ) (d : List ℕ) → cardSize (cardOf d) ≡ 0 → (length d ≡ 0 → ⊥) → cutFrom 0 at d ≡ piece at d ∷ []
+-- whatever its bytes, a card comes first where some bytes are left
+cut-some : (at : ℕ) (d : List ℕ) → (length d ≡ 0 → ⊥) → (ps : List Piece) × (cutFrom 0 at d ≡ piece at d ∷ ps)
 unfolding cutFrom
-cut-last at [] e n = absurd (n refl)
-cut-last at (b ∷ d) e n = rw (e, cutFrom)
+cut-some at [] n = absurd (n refl)
+cut-some at (b ∷ d) n = (_, refl)
 
-pub cards-last : (deck : List ℕ) (at : ℕ) → cardSize (cardAt deck at) ≡ 0 → at < length deck → cardsFrom deck at ≡ piece at (drop at deck) ∷ []
-cards-last deck at e l = cut-last at (drop at deck) e (λ z. omega (arith, length-drop at deck))
+pub cards-some : (deck : List ℕ) (at : ℕ) → at < length deck → (ps : List Piece) × (cardsFrom deck at ≡ piece at (drop at deck) ∷ ps)
+cards-some deck at l = cut-some at (drop at deck) (λ z. omega (arith, length-drop at deck))
 
 pub cards-end : (deck : List ℕ) (at : ℕ) → length deck ≤ at → cardsFrom deck at ≡ []
 unfolding cutFrom
@@ -79,18 +83,18 @@ module _ (deck : List ℕ) (at : ℕ) {number location words problem size : ℕ}
   unfolding dataIn
   data-next = ap dataIn (cards-next deck at size (ap cardSize e) (data-at .long)) ∙ rw (e, dataIn)
 
-none-in : (at : ℕ) (d : List ℕ) → ((number location words problem size : ℕ) → cardOf d ≡ Data number location words problem size → ⊥)
-    → dataIn (cutFrom 0 at d) ≡ []
-unfolding cutFrom dataIn
-none-in at [] n = refl
-none-in at (b ∷ d) n = by-card (cardOf (b ∷ d)) refl
-  where
-    by-card : (x : Card) → cardOf (b ∷ d) ≡ x → dataIn (cutFrom 0 at (b ∷ d)) ≡ []
-    by-card (Data number location words problem size) q = absurd (n number location words problem size q)
-    by-card (First order problem) q = rw (q, dataIn)
-    by-card (Bad f p) q = rw (q, dataIn)
-    by-card End q = rw (q, dataIn)
+-- a card is no data card, as far as the `else` of a `let` knows
+abbrev pub Other : Card → Type 0
+Other x = OneOf (1 ∷ 2 ∷ 3 ∷ []) (tagOf the-type x)
 
-pub data-none : (deck : List ℕ) (at : ℕ)
-    → ((number location words problem size : ℕ) → cardAt deck at ≡ Data number location words problem size → ⊥) → dataFrom deck at ≡ []
-data-none deck at n = none-in at (drop at deck) n
+none-in : (at : ℕ) (d : List ℕ) (x : Card) → Other x → cardOf d ≡ x → dataIn (cutFrom 0 at d) ≡ []
+unfolding cutFrom dataIn
+none-in at [] x t q = refl
+none-in at (b ∷ d) (Data number location words problem size) t q =
+    let z : ⊥ = ⊎-elim (λ y. omega arith) (λ y. ⊎-elim (λ y. omega arith) (λ y. omega arith) y) t in absurd z
+none-in at (b ∷ d) (First order problem) t q = rw (q, dataIn)
+none-in at (b ∷ d) (Bad f p) t q = rw (q, dataIn)
+none-in at (b ∷ d) End t q = rw (q, dataIn)
+
+pub data-none : (deck : List ℕ) (at : ℕ) (x : Card) → Other x → cardAt deck at ≡ x → dataFrom deck at ≡ []
+data-none deck at = none-in at (drop at deck)
