@@ -1,95 +1,29 @@
 -- The check of a deck, as a loop goes through its cards: what is left to check has the answer of the whole. Assumes nothing.
-use mathlib.Core.Path.{_≡_, refl, sym, ap, _∙_}
-use mathlib.Core.List.{List, []}
+use mathlib.Core.Path.{_≡_, refl, sym, ap, ap₂, _∙_}
+use mathlib.Core.List.{List, [], _∷_}
 use mathlib.Core.Bool.{Bool, true, false}
-use Prim.Native.Nat.{ℕ, suc, _+_, _-_, _≤_, _<_}
+use Prim.Native.Nat.{ℕ, _+_, _-_, _≤_, _<_}
+use native.Mathlib.Nat.{pos-of-ne-zero}
 use native.Mathlib.Omega.{arith}
-use lib.Dec.{ltb, eqb}
-use lib.ListN.{length, getD, take, drop, length-drop, drop-of-length-le}
+use lib.Dec.{eqb}
+use lib.ListN.{length, getD, take, drop, length-drop}
 use lib.Seq.{take-all}
-use borrow.Author.Tests.{lt-ltb, le-ltb, eq-eqb, ne-eqb, ltb-true, ltb-false}
-use Rattle.rules.specs.Words.{pick, both}
-use Rattle.rules.specs.Cards.{cardOf, cardBehind}
-use Rattle.rules.specs.Decks.{checkedFrom, checkedBehind, deckOf}
+use borrow.Author.Tests.{lt-ltb, le-ltb, eq-eqb}
+use Rattle.rules.specs.Words.{pick}
+use Rattle.rules.specs.Cards.{numberIn, badFrom, cellsFit, cardOf}
+use Rattle.rules.specs.Decks.{cardAt, cardSize, Piece, cardsFrom, met, checkedFrom, deckOf}
 use Rattle.rules.specs.declared.Fault.{Fault}
-use Rattle.rules.specs.declared.Fault.the-variants.{SecondFirst}
+use Rattle.rules.specs.declared.Fault.the-variants.{UnknownKind, SecondFirst, CutShort, BadByte, BadPlace}
 use Rattle.rules.specs.declared.Card.{Card}
 use Rattle.rules.specs.declared.Card.the-variants.{Data, First, Bad}
+use Rattle.rules.specs.declared.DeckFault.{DeckFault}
 use Rattle.rules.specs.declared.DeckFault.the-variants.{TooLong, At, NoFirst}
 use Rattle.rules.specs.declared.Deck.{Deck}
 use Rattle.rules.specs.declared.Deck.the-variants.{Good, Faulty}
-use Rattle.rules.proofs.Tests.{both-first, both-second}
-
--- the cards from place `at` on, by at most so many; first is the place behind the first-order card, and 0 before it
-abbrev left : ℕ → List ℕ → ℕ → ℕ → Deck
-left k deck first at = pick (eqb first 0) (checkedFrom k deck at) (checkedBehind k deck first at)
-
--- the card met there
-abbrev met : ℕ → List ℕ → Card
-met first d = pick (eqb first 0) (cardOf d) (cardBehind d)
-
-left-bad : (k : ℕ) (deck : List ℕ) (first at : ℕ) (f : Fault) → met first (drop at deck) ≡ Bad f → left (suc k) deck first at ≡ Faulty (At at f)
-unfolding checkedFrom checkedBehind
-left-bad k deck first at f = by-first (eqb first 0)
-  where
-    by-first : (t : Bool) → pick t (cardOf (drop at deck)) (cardBehind (drop at deck)) ≡ Bad f
-        → pick t (checkedFrom (suc k) deck at) (checkedBehind (suc k) deck first at) ≡ Faulty (At at f)
-    by-first true e = rw (e, checkedFrom)
-    by-first false e = rw (e, checkedBehind)
-
-left-data : (k : ℕ) (deck : List ℕ) (first at : ℕ) {number location words problem size : ℕ}
-    → met first (drop at deck) ≡ Data number location words problem size → left (suc k) deck first at ≡ left k deck first (at + size)
-unfolding checkedFrom checkedBehind
-left-data k deck first at {number} {location} {words} {problem} {size} = by-first (eqb first 0)
-  where
-    by-first : (t : Bool) → pick t (cardOf (drop at deck)) (cardBehind (drop at deck)) ≡ Data number location words problem size
-        → pick t (checkedFrom (suc k) deck at) (checkedBehind (suc k) deck first at) ≡ pick t (checkedFrom k deck (at + size)) (checkedBehind k deck first (at + size))
-    by-first true e = rw (e, checkedFrom)
-    by-first false e = rw (e, checkedBehind)
-
-left-first : (k : ℕ) (deck : List ℕ) (at : ℕ) {order problem : ℕ} → cardOf (drop at deck) ≡ First order problem
-    → left (suc k) deck 0 at ≡ checkedBehind k deck (at + 7) (at + 7)
-unfolding checkedFrom
-left-first k deck at e = rw (e, checkedFrom)
-
-left-end : (k : ℕ) (deck : List ℕ) (first at : ℕ) → drop at deck ≡ []
-    → left (suc k) deck first at ≡ pick (eqb first 0) (Faulty (NoFirst (length deck))) (Good first)
-unfolding checkedFrom checkedBehind cardOf cardBehind
-left-end k deck first at e = by-first (eqb first 0)
-  where
-    by-first : (t : Bool) → pick t (checkedFrom (suc k) deck at) (checkedBehind (suc k) deck first at) ≡ pick t (Faulty (NoFirst (length deck))) (Good first)
-    by-first true = rw (e, checkedFrom)
-    by-first false = rw (e, checkedBehind)
-
--- whether the card d is a second first-order card
-abbrev pub second : ℕ → List ℕ → Bool
-second first d = both (eqb (getD d 0 0) 84) (ltb 0 first)
-
-met-second : (first : ℕ) (d : List ℕ) → second first d ≡ true → met first d ≡ Bad SecondFirst
-unfolding cardBehind
-met-second first d e =
-    let k : eqb (getD d 0 0) 84 ≡ true = both-first (eqb (getD d 0 0) 84) (ltb 0 first) e in
-    let l : 0 < first = ltb-true 0 first (both-second (eqb (getD d 0 0) 84) (ltb 0 first) e) in
-    simp (ne-eqb first 0 (λ z. omega arith), k)
-
-met-other : (first : ℕ) (d : List ℕ) → second first d ≡ false → met first d ≡ cardOf d
-unfolding cardBehind
-met-other first d = by-kind (eqb (getD d 0 0) 84)
-  where
-    by-place : (t : Bool) → ltb 0 first ≡ t → t ≡ false → pick (eqb first 0) (cardOf d) (Bad SecondFirst) ≡ cardOf d
-    by-place t e q =
-        let z : first ≡ 0 = omega (arith, ltb-false 0 first (e ∙ q)) in
-        simp (eq-eqb first 0 z)
-
-    same : (t : Bool) → pick t (cardOf d) (cardOf d) ≡ cardOf d
-    same true = refl
-    same false = refl
-
-    by-kind : (t : Bool) → both t (ltb 0 first) ≡ false → pick (eqb first 0) (cardOf d) (pick t (Bad SecondFirst) (cardOf d)) ≡ cardOf d
-    by-kind true e = by-place (ltb 0 first) refl e
-    by-kind false e = same (eqb first 0)
-
--- ---- the loop
+use Rattle.rules.proofs.Decks.{piece, cards-some, cards-next, cards-end}
+use Rattle.card.specs.declared.fields.Form.{Form}
+use Rattle.card.specs.Forms.{formOf, isSecond}
+use Rattle.card.proofs.Forms.{Begun, Whole, first-size, card-unknown, card-cut, card-byte, card-place, card-first, card-data}
 
 -- what `&deck[at..]` holds
 abbrev pub part : List ℕ → ℕ → List ℕ
@@ -101,77 +35,143 @@ part-is deck at = take-all (length deck - at) (drop at deck) (omega (arith, leng
 pub length-part : (deck : List ℕ) (at : ℕ) → length (part deck at) ≡ length deck - at
 length-part deck at = ap length (part-is deck at) ∙ length-drop at deck
 
--- the cards before `at` are good, and first is the place behind the first-order card among them, and 0 if there is none
-pub record Checking (deck : List ℕ) (at first : ℕ) : Type 0 where
-  pub fuel : ℕ
-  pub enough : length deck < at + fuel
+-- ---- the card met
+
+met-second : (sofar : Deck) (p : Piece) → isSecond sofar (getD (p .rest) 0 0) ≡ true → met sofar p ≡ Bad SecondFirst 0
+met-second (Good behind order problem) p e = rw e
+met-second (Faulty f) p e = absurd (let z : _≡_ {A = ℕ} 0 1 = cc in omega arith)
+
+met-other : (sofar : Deck) (p : Piece) → isSecond sofar (getD (p .rest) 0 0) ≡ false → met sofar p ≡ p .card
+met-other (Good behind order problem) p e = rw e
+met-other (Faulty f) p e = refl
+
+from-bad : (sofar : Deck) (p : Piece) (ps : List Piece) (f : Fault) (b : ℕ) → met sofar p ≡ Bad f b
+    → checkedFrom sofar (p ∷ ps) ≡ Faulty (At (p .place) f (p .place + b))
+unfolding checkedFrom
+from-bad sofar p ps f b e = rw (e, checkedFrom)
+
+from-data : (sofar : Deck) (p : Piece) (ps : List Piece) {number location words problem size : ℕ} → met sofar p ≡ Data number location words problem size
+    → checkedFrom sofar (p ∷ ps) ≡ checkedFrom sofar ps
+unfolding checkedFrom
+from-data sofar p ps e = rw (e, checkedFrom)
+
+from-first : (sofar : Deck) (p : Piece) (ps : List Piece) {order problem : ℕ} → met sofar p ≡ First order problem
+    → checkedFrom sofar (p ∷ ps) ≡ checkedFrom (Good (p .place + 7) order problem) ps
+unfolding checkedFrom
+from-first sofar p ps e = rw (e, checkedFrom)
+
+-- ---- the loop
+
+-- the cards before `at` are good, and sofar is the answer if no more come
+pub record Checking (deck : List ℕ) (at : ℕ) (sofar : Deck) : Type 0 where
+  pub short : length deck ≤ 65536
   pub within : at ≤ length deck
-  pub same : left fuel deck first at ≡ deckOf deck
+  pub same : checkedFrom sofar (cardsFrom deck at) ≡ deckOf deck
 
 pub check-long : (deck : List ℕ) → 65536 < length deck → Faulty TooLong ≡ deckOf deck
 unfolding deckOf
 check-long deck h = simp (lt-ltb 65536 (length deck) h)
 
-pub check-begin : (deck : List ℕ) → length deck ≤ 65536 → Checking deck 0 0
+pub check-begin : (deck : List ℕ) → length deck ≤ 65536 → Checking deck 0 (Faulty (NoFirst (length deck)))
 unfolding deckOf
-check-begin deck h = record {
-  fuel = length deck + 1;
-  enough = omega arith;
-  within = omega arith;
-  same = simp (le-ltb 65536 (length deck) h);
-}
+check-begin deck h = record { short = h; within = omega arith; same = simp (le-ltb 65536 (length deck) h) }
 
-module _ (deck : List ℕ) (at first : ℕ) (h : Checking deck at first) where
-  next : ℕ
-  next = h .fuel - 1
+module _ {deck : List ℕ} {at : ℕ} {sofar : Deck} (h : Checking deck at sofar) where
+  pub check-end : length deck ≤ at → sofar ≡ deckOf deck
+  unfolding checkedFrom
+  check-end l = sym (ap (checkedFrom sofar) (cards-end deck at l)) ∙ h .same
 
-  one-more : h .fuel ≡ suc next
-  unfolding next
-  one-more = omega (arith, h .enough, h .within)
+  bad-here : at < length deck → (f : Fault) (b : ℕ) → met sofar (piece at (drop at deck)) ≡ Bad f b → Faulty (At at f (at + b)) ≡ deckOf deck
+  bad-here l f b e =
+      let s = cards-some deck at l in
+      sym (ap (checkedFrom sofar) (s .1) ∙ from-bad sofar (piece at (drop at deck)) (s .0) f b e) ∙ h .same
 
-  is-left : left (suc next) deck first at ≡ deckOf deck
-  is-left = ap (λ (k : ℕ). left k deck first at) (sym one-more) ∙ h .same
+  pub check-second : at < length deck → isSecond sofar (getD (part deck at) 0 0) ≡ true → Faulty (At at SecondFirst at) ≡ deckOf deck
+  check-second l s =
+      ap (λ (b : ℕ). Faulty (At at SecondFirst b)) (omega arith)
+      ∙ bad-here l SecondFirst 0
+      (met-second sofar (piece at (drop at deck)) (ap (λ (d : List ℕ). isSecond sofar (getD d 0 0)) (sym (part-is deck at)) ∙ s))
 
-  pub check-none : length deck ≤ at → first ≡ 0 → Faulty (NoFirst (length deck)) ≡ deckOf deck
-  check-none l z =
-      sym (left-end next deck first at (drop-of-length-le deck l) ∙ simp (eq-eqb first 0 z)) ∙ is-left
+-- the card at `at` is of the form f, and no second first-order card
+pub record Met (deck : List ℕ) (at : ℕ) (sofar : Deck) (f : Form) : Type 0 where
+  pub checking : Checking deck at sofar
+  pub here : at < length deck
+  pub form : f ≡ formOf (getD (part deck at) 0 0)
+  pub other : isSecond sofar (getD (part deck at) 0 0) ≡ false
 
-  pub check-good : length deck ≤ at → (first ≡ 0 → ⊥) → Good first ≡ deckOf deck
-  check-good l z = sym (left-end next deck first at (drop-of-length-le deck l) ∙ simp (ne-eqb first 0 z)) ∙ is-left
+module _ {deck : List ℕ} {at : ℕ} {sofar : Deck} {f : Form} (h : Met deck at sofar f) where
+  begun : Begun (part deck at) f
+  begun = record { some = λ z. omega (arith, length-part deck at, h .here); form = h .form }
 
-  pub check-second : second first (part deck at) ≡ true → Faulty (At at SecondFirst) ≡ deckOf deck
-  check-second s =
-      sym (left-bad next deck first at SecondFirst (ap (met first) (sym (part-is deck at)) ∙ met-second first (part deck at) s)) ∙ is-left
+  is-met : met sofar (piece at (drop at deck)) ≡ cardOf (part deck at)
+  is-met =
+      met-other sofar (piece at (drop at deck)) (ap (λ (d : List ℕ). isSecond sofar (getD d 0 0)) (sym (part-is deck at)) ∙ h .other)
+      ∙ ap cardOf (sym (part-is deck at))
 
-  module _ (s : second first (part deck at) ≡ false) where
-    is-met : met first (drop at deck) ≡ cardOf (part deck at)
-    is-met = ap (met first) (sym (part-is deck at)) ∙ met-other first (part deck at) s
+  fault : (k : Fault) (b byte : ℕ) → cardOf (part deck at) ≡ Bad k b → byte ≡ at + b → Faulty (At at k byte) ≡ deckOf deck
+  fault k b byte e q = ap (λ (y : ℕ). Faulty (At at k y)) q ∙ bad-here (h .checking) (h .here) k b (is-met ∙ e)
 
-    pub check-fault : (f : Fault) → cardOf (part deck at) ≡ Bad f → Faulty (At at f) ≡ deckOf deck
-    check-fault f e = sym (left-bad next deck first at f (is-met ∙ e)) ∙ is-left
+  pub check-unknown : f .size ≡ 0 → Faulty (At at UnknownKind at) ≡ deckOf deck
+  check-unknown z = fault UnknownKind 0 at (card-unknown begun z) (omega arith)
 
-    pub check-data : {number location words problem size : ℕ} → cardOf (part deck at) ≡ Data number location words problem size
-        → 1 ≤ size → size ≤ length (part deck at) → Checking deck (at + size) first
-    check-data {size = size} e l w = record {
-      fuel = next;
-      enough = omega (arith, h .enough, one-more);
-      within = omega (arith, length-part deck at, h .within);
-      same = sym (left-data next deck first at (is-met ∙ e)) ∙ is-left;
-    }
+  pub check-cut : (f .size ≡ 0 → ⊥) → length (part deck at) < f .size → Faulty (At at CutShort at) ≡ deckOf deck
+  check-cut n l = fault CutShort 0 at (card-cut begun n l) (omega arith)
 
-    pub check-first : {order problem : ℕ} (size : ℕ) → cardOf (part deck at) ≡ First order problem → getD (part deck at) 0 0 ≡ 84
-        → size ≡ 7 → size ≤ length (part deck at) → Checking deck (at + size) (at + size)
-    check-first size e k q w =
-        let t : ltb 0 first ≡ false = ap (λ (t : Bool). both t (ltb 0 first)) (sym (eq-eqb (getD (part deck at) 0 0) 84 k)) ∙ s in
-        let z : first ≡ 0 = omega (arith, ltb-false 0 first t) in
-        record {
-          fuel = next;
-          enough = omega (arith, h .enough, one-more);
-          within = omega (arith, length-part deck at, h .within);
-          same =
-              simp (ne-eqb (at + size) 0 (λ n. omega arith))
-              (ap (λ (n : ℕ). checkedBehind next deck (at + n) (at + n)) q
-              ∙ sym (left-first next deck at (ap cardOf (sym (part-is deck at)) ∙ e))
-              ∙ ap (λ (f : ℕ). left (suc next) deck f at) (sym z)
-              ∙ is-left);
-        }
+  -- where the card ends, the check goes on
+  next-is : (size : ℕ) → cardSize (cardOf (part deck at)) ≡ size → 1 ≤ size → cardsFrom deck at ≡ piece at (drop at deck) ∷ cardsFrom deck (at + size)
+  next-is size e = cards-next deck at size (ap (λ (d : List ℕ). cardSize (cardOf d)) (sym (part-is deck at)) ∙ e)
+
+-- its kind stands in decks, and its bytes are there
+pub record Long (deck : List ℕ) (at : ℕ) (sofar : Deck) (f : Form) : Type 0 where
+  pub met : Met deck at sofar f
+  pub known : f .size ≡ 0 → ⊥
+  pub whole : f .size ≤ length (part deck at)
+
+module _ {deck : List ℕ} {at : ℕ} {sofar : Deck} {f : Form} (h : Long deck at sofar f) {b : ℕ} (e : b ≡ badFrom (f .words) (part deck at) 1 (f .size - 1)) where
+  looked : Whole (part deck at) f b
+  looked = record { begun = begun (h .met); known = h .known; whole = h .whole; looked = e }
+
+  pub check-byte : b < f .size → Faulty (At at BadByte (at + b)) ≡ deckOf deck
+  check-byte l = fault (h .met) BadByte b (at + b) (card-byte looked l) refl
+
+  module _ (l : f .size ≤ b) {location : ℕ} (n : location ≡ numberIn (part deck at) (f .place) 3) where
+    fit : (t : Bool) → cellsFit location (f .cells) ≡ t → cellsFit (numberIn (part deck at) (f .place) 3) (f .cells) ≡ t
+    fit t q = ap (λ (x : ℕ). cellsFit x (f .cells)) (sym n) ∙ q
+
+    pub check-place : cellsFit location (f .cells) ≡ false → Faulty (At at BadPlace (at + f .place)) ≡ deckOf deck
+    check-place q = fault (h .met) BadPlace (f .place) (at + f .place) (card-place looked l (fit false q)) refl
+
+    module _ (q : cellsFit location (f .cells) ≡ true) where
+      short : length deck ≤ 65536
+      short = h .met .checking .short
+
+      within : at + f .size ≤ length deck
+      within = omega (arith, length-part deck at, h .met .checking .within, h .whole)
+
+      pub check-data : (getD (part deck at) 0 0 ≡ 84 → ⊥) → Checking deck (at + f .size) sofar
+      check-data k =
+          let c = card-data looked l (fit true q) k in
+          record {
+            short = short;
+            within = within;
+            same =
+                sym (ap (checkedFrom sofar) (next-is (h .met) (f .size) (ap cardSize c) (pos-of-ne-zero (h .known)))
+                ∙ from-data sofar (piece at (drop at deck)) (cardsFrom deck (at + f .size)) (is-met (h .met) ∙ c))
+                ∙ h .met .checking .same;
+          }
+
+      pub check-first : getD (part deck at) 0 0 ≡ 84 → {problem : ℕ} → problem ≡ numberIn (part deck at) 4 3
+          → Checking deck (at + f .size) (Good (at + f .size) location problem)
+      check-first k {problem} p =
+          let s : f .size ≡ 7 = first-size f (getD (part deck at) 0 0) (h .met .form) k in
+          let c : cardOf (part deck at) ≡ First location problem =
+          card-first looked l (fit true q) k ∙ ap₂ First (sym n) (sym p) in
+          record {
+            short = short;
+            within = within;
+            same =
+                ap (λ (n : ℕ). checkedFrom (Good (at + n) location problem) (cardsFrom deck (at + n))) s
+                ∙ sym (ap (checkedFrom sofar) (next-is (h .met) 7 (ap cardSize c) (omega arith))
+                ∙ from-first sofar (piece at (drop at deck)) (cardsFrom deck (at + 7)) (is-met (h .met) ∙ c))
+                ∙ h .met .checking .same;
+          }

@@ -25,7 +25,7 @@ cardIn k f d =
 abbrev formed : ℕ → Form → List ℕ → Card
 formed k f d =
     wholeCard (f .words) (f .size) d
-    (pick (cellsFit (numberIn d (f .place) 3) (f .cells)) (cardIn k f d) (Bad (BadPlace (f .place))))
+    (pick (cellsFit (numberIn d (f .place) 3) (f .cells)) (cardIn k f d) (Bad BadPlace (f .place)))
 
 of-kind : (k : ℕ) (t : List ℕ) → (formOf k .size ≡ 0 → ⊥) → cardOf (k ∷ t) ≡ formed k (formOf k) (k ∷ t)
 unfolding formOf cardOf dataOf firstOf
@@ -35,12 +35,12 @@ of-kind k t = by-kind (isDataKind k) refl
     d = k ∷ t
 
     others : (s : Bool) → eqb k 84 ≡ s → (pick s firstForm noForm .size ≡ 0 → ⊥)
-        → pick s (firstOf d) (Bad UnknownKind) ≡ formed k (pick s firstForm noForm) d
+        → pick s (firstOf d) (Bad UnknownKind 0) ≡ formed k (pick s firstForm noForm) d
     others true e h = simp e
     others false e h = absurd (h refl)
 
     by-kind : (s : Bool) → isDataKind k ≡ s → (pick s (dataForm (k - 48)) (pick (eqb k 84) firstForm noForm) .size ≡ 0 → ⊥)
-        → pick s (dataOf (k - 48) d) (pick (eqb k 84) (firstOf d) (Bad UnknownKind)) ≡ formed k (pick s (dataForm (k - 48)) (pick (eqb k 84) firstForm noForm)) d
+        → pick s (dataOf (k - 48) d) (pick (eqb k 84) (firstOf d) (Bad UnknownKind 0)) ≡ formed k (pick s (dataForm (k - 48)) (pick (eqb k 84) firstForm noForm)) d
     by-kind true e h =
         let l = leb-true k 53 (both-second (leb 49 k) (leb k 53) e) in
         simp (ne-eqb k 84 (λ z. omega arith))
@@ -52,16 +52,16 @@ unfolding cardOf
 card-none [] h = refl
 card-none (k ∷ t) h = absurd (let z : ⊥ = omega arith in z)
 
-of-no-kind : (k : ℕ) (t : List ℕ) → formOf k .size ≡ 0 → cardOf (k ∷ t) ≡ Bad UnknownKind
+of-no-kind : (k : ℕ) (t : List ℕ) → formOf k .size ≡ 0 → cardOf (k ∷ t) ≡ Bad UnknownKind 0
 unfolding formOf cardOf
 of-no-kind k t = by-kind (isDataKind k)
   where
-    others : (s : Bool) → pick s firstForm noForm .size ≡ 0 → pick s (firstOf (k ∷ t)) (Bad UnknownKind) ≡ Bad UnknownKind
+    others : (s : Bool) → pick s firstForm noForm .size ≡ 0 → pick s (firstOf (k ∷ t)) (Bad UnknownKind 0) ≡ Bad UnknownKind 0
     others true h = absurd (let z : ⊥ = omega arith in z)
     others false h = refl
 
     by-kind : (s : Bool) → pick s (dataForm (k - 48)) (pick (eqb k 84) firstForm noForm) .size ≡ 0
-        → pick s (dataOf (k - 48) (k ∷ t)) (pick (eqb k 84) (firstOf (k ∷ t)) (Bad UnknownKind)) ≡ Bad UnknownKind
+        → pick s (dataOf (k - 48) (k ∷ t)) (pick (eqb k 84) (firstOf (k ∷ t)) (Bad UnknownKind 0)) ≡ Bad UnknownKind 0
     by-kind true h = absurd (let z : ⊥ = omega arith in z)
     by-kind false h = others (eqb k 84) h
 
@@ -81,9 +81,9 @@ pub record Whole (d : List ℕ) (f : Form) (b : ℕ) : Type 0 where
   pub looked : b ≡ badFrom (f .words) d 1 (f .size - 1)
 
 module _ {d : List ℕ} {f : Form} (h : Begun d f) where
-  pub card-unknown : f .size ≡ 0 → cardOf d ≡ Bad UnknownKind
+  pub card-unknown : f .size ≡ 0 → cardOf d ≡ Bad UnknownKind 0
   card-unknown z =
-      by-first (λ (k : ℕ) (e : List ℕ). formOf k .size ≡ 0 → cardOf e ≡ Bad UnknownKind) of-no-kind d (h .some)
+      by-first (λ (k : ℕ) (e : List ℕ). formOf k .size ≡ 0 → cardOf e ≡ Bad UnknownKind 0) of-no-kind d (h .some)
       (sym (ap (λ (g : Form). g .size) (h .form)) ∙ z)
 
   card-formed : (f .size ≡ 0 → ⊥) → cardOf d ≡ formed (getD d 0 0) f d
@@ -92,15 +92,15 @@ module _ {d : List ℕ} {f : Form} (h : Begun d f) where
       (λ z. known (ap (λ (g : Form). g .size) (h .form) ∙ z))
       ∙ ap (λ (g : Form). formed (getD d 0 0) g d) (sym (h .form))
 
-  pub card-cut : (f .size ≡ 0 → ⊥) → length d < f .size → cardOf d ≡ Bad CutShort
+  pub card-cut : (f .size ≡ 0 → ⊥) → length d < f .size → cardOf d ≡ Bad CutShort 0
   card-cut known l = card-formed known ∙ simp (lt-ltb (length d) (f .size) l)
 
 module _ {d : List ℕ} {f : Form} {b : ℕ} (h : Whole d f b) where
-  pub card-byte : b < f .size → cardOf d ≡ Bad (BadByte b)
+  pub card-byte : b < f .size → cardOf d ≡ Bad BadByte b
   card-byte l =
       card-formed (h .begun) (h .known) ∙ simp (le-ltb (length d) (f .size) (h .whole), ← (h .looked), lt-ltb b (f .size) l)
 
-  pub card-place : f .size ≤ b → cellsFit (numberIn d (f .place) 3) (f .cells) ≡ false → cardOf d ≡ Bad (BadPlace (f .place))
+  pub card-place : f .size ≤ b → cellsFit (numberIn d (f .place) 3) (f .cells) ≡ false → cardOf d ≡ Bad BadPlace (f .place)
   card-place l t =
       card-formed (h .begun) (h .known) ∙ simp (le-ltb (length d) (f .size) (h .whole), ← (h .looked), le-ltb b (f .size) l, t)
 

@@ -6,10 +6,16 @@ use contract.Lifetimes.{Lfts}
 use denote.Ref.{now}
 use denote.Triple.Clauses.{AtExit}
 use borrow.Fn.Kinds.{PK, RK, Out, Dens, resT, endedOf}
+use Rattle.card.proofs.cards.judge.Kinds as judge-kinds
+use Rattle.card.proofs.cards.judge.Reads as judge
+use Rattle.card.proofs.cards.may_stand.Kinds as may-stand-kinds
+use Rattle.card.proofs.cards.may_stand.Reads as may-stand
 use Rattle.card.proofs.checking.check_deck.Kinds as check-deck-kinds
 use Rattle.card.proofs.checking.check_deck.Reads as check-deck
 use Rattle.card.proofs.lines.write_line.Kinds as write-line-kinds
 use Rattle.card.proofs.lines.write_line.Reads as write-line
+use Rattle.card.proofs.reading.card_at.Kinds as card-at-kinds
+use Rattle.card.proofs.reading.card_at.Reads as card-at
 use Rattle.card.proofs.reading.first_bad.Kinds as first-bad-kinds
 use Rattle.card.proofs.reading.first_bad.Reads as first-bad
 use Rattle.card.proofs.reading.read_card.Kinds as read-card-kinds
@@ -35,6 +41,9 @@ Agrees ps r Post Same = (κs : Lfts 1) (a : Dens κs ps) (x y : resT r κs .Deno
 pub one-card : Agrees read-card-kinds.ps read-card-kinds.r read-card.Post (λ κs x y s t. x ≡ y)
 one-card κs a x y s t p q = p ∙ sym q
 
+pub one-card-at : Agrees card-at-kinds.ps card-at-kinds.r card-at.Post (λ κs x y s t. x ≡ y)
+one-card-at κs a x y s t p q = p ∙ sym q
+
 pub one-place : Agrees first-bad-kinds.ps first-bad-kinds.r first-bad.Post (λ κs x y s t. x ≡ y)
 one-place κs a x y s t p q = p ∙ sym q
 
@@ -43,6 +52,12 @@ one-word κs a x y s t p q = p ∙ sym q
 
 pub one-deck : Agrees check-deck-kinds.ps check-deck-kinds.r check-deck.Post (λ κs x y s t. x ≡ y)
 one-deck κs a x y s t p q = p ∙ sym q
+
+pub one-judgement : Agrees judge-kinds.ps judge-kinds.r judge.Post (λ κs x y s t. x ≡ y)
+one-judgement κs a x y s t p q = p ∙ sym q
+
+pub one-stand : Agrees may-stand-kinds.ps may-stand-kinds.r may-stand.Post (λ κs x y s t. x ≡ y)
+one-stand κs a x y s t p q = p ∙ sym q
 
 pub one-data : Agrees write-data-kinds.ps write-data-kinds.r write-data.Post (λ κs x y s t. (x ≡ y) × (now (s .0) ≡ now (t .0)))
 one-data κs a x y s t p q = (p .answer ∙ sym (q .answer), p .bytes ∙ sym (q .bytes))

@@ -1,9 +1,12 @@
--- The form of a card by its kind: what is the same for data cards and first-order cards. Assumes nothing.
+-- The form of a card by its kind: what is the same for data cards and first-order cards; and a second first-order card. Assumes nothing.
 use Prim.Native.Nat.{ℕ, _-_, _≤_}
+use mathlib.Core.Bool.{Bool, false}
 use mathlib.Core.Path.{_≡_}
 use Rattle.rules.specs.Words.{pick}
 use Rattle.rules.specs.Cards.{zeroByte, firstKind, isDataKind, dataSize, firstSize}
 use lib.Dec.{eqb}
+use Rattle.rules.specs.declared.Deck.{Deck}
+use Rattle.rules.specs.declared.Deck.the-variants.{Good, Faulty}
 use Rattle.card.specs.declared.fields.Form.{Form}
 
 -- a card of n words has its location at place 5, and as many cells as words
@@ -28,3 +31,8 @@ pub record FormIs (k : ℕ) (f : Form) : Type 0 where
   pub size : f .size ≤ 66
   pub place : f .place ≤ 5
   pub cells : f .cells ≤ 5
+
+-- whether a card of the kind k is a second first-order card, in a deck that has been checked so far
+abbrev pub isSecond : Deck → ℕ → Bool
+isSecond (Good behind order problem) k = eqb k firstKind
+isSecond (Faulty f) k = false

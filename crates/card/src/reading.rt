@@ -1,7 +1,8 @@
-// One card, read from what is left of a deck.
+// One card, read from what is left of a deck, or at a place of it.
 ghost use mathlib.Core.Path.{_≡_};
 ghost use Prim.Native.Nat.{_-_};
 ghost use Rattle.rules.specs.Cards.{badFrom, wordIn, wordPlace, cardOf};
+ghost use Rattle.rules.specs.Decks.{cardAt};
 use crate::fields::byte_at;
 use crate::fields::cells_fit;
 use crate::fields::form_of;
@@ -39,18 +40,18 @@ pub fn read_card(rest: &[u8]) -> Card
     let place = form.place;
     let cells = form.cells;
     if size == 0 {
-        return Card::Bad(Fault::UnknownKind);
+        return Card::Bad(Fault::UnknownKind, 0);
     }
     if rest.len() < size {
-        return Card::Bad(Fault::CutShort);
+        return Card::Bad(Fault::CutShort, 0);
     }
     let bad = first_bad(rest, words, size);
     if bad < size {
-        return Card::Bad(Fault::BadByte(bad));
+        return Card::Bad(Fault::BadByte, bad);
     }
     let location = number_in(rest, place, 3);
     if !cells_fit(location, cells) {
-        return Card::Bad(Fault::BadPlace(place));
+        return Card::Bad(Fault::BadPlace, place);
     }
     if kind == b'T' {
         let problem = number_in(rest, 4, 3);
@@ -68,6 +69,16 @@ pub fn read_card(rest: &[u8]) -> Card
         problem,
         size,
     }
+}
+
+// The card at any place of a deck.
+pub fn card_at(deck: &[u8], at: usize) -> Card
+    ensures { λ r. ⌜ r ≡ cardAt (now (deck .entry)) at ⌝ }
+{
+    if deck.len() < at {
+        return Card::End;
+    }
+    read_card(&deck[at..])
 }
 
 // The word i of the card, as its bytes have it. Bytes past the end count as 0, so a word that lies past them is 0.

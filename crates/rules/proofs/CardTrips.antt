@@ -31,10 +31,10 @@ pick-never : {A : Type 0} (t : Bool) (x y z : A) → (x ≡ z → ⊥) → (y �
 pick-never true x y z m n = m
 pick-never false x y z m n = n
 
-bad-data : {f : Fault} {a b c d e : ℕ} → Bad f ≡ Data a b c d e → ⊥
+bad-data : {f : Fault} {p a b c d e : ℕ} → Bad f p ≡ Data a b c d e → ⊥
 bad-data q = let z : _≡_ {A = ℕ} 0 1 = cc in omega arith
 
-bad-first : {f : Fault} {a b : ℕ} → Bad f ≡ First a b → ⊥
+bad-first : {f : Fault} {p a b : ℕ} → Bad f p ≡ First a b → ⊥
 bad-first q = let z : _≡_ {A = ℕ} 0 1 = cc in omega arith
 
 first-data : {o p a b c d e : ℕ} → First o p ≡ Data a b c d e → ⊥

@@ -1,23 +1,21 @@
 -- A mark once set stays: no order, run or load takes one away, since the one change of cells is a store. Assumes nothing.
 use Prim.Native.Nat.{ℕ, zero, suc, _+_, _-_}
 use mathlib.Core.Path.{_≡_, refl, sym, subst}
-use mathlib.Core.List.{List}
+use mathlib.Core.List.{List, [], _∷_}
 use mathlib.Core.Bool.{Bool, true, false}
 use lib.Dec.{eqb, leb, ltb}
-use lib.ListN.{length, drop}
+use lib.ListN.{length}
 use Rattle.rules.specs.Words.{pick, both, aIn, bIn, cIn}
 use Rattle.rules.specs.Numbers.{mayGoOn}
 use Rattle.rules.specs.Drum.{cellAt, wordAt, store}
 use Rattle.rules.specs.Cards.{wordIn, wordPlace}
-use Rattle.rules.specs.Decks.{cardAt, wordsStored, cardsStored, judgedFrom}
+use Rattle.rules.specs.Decks.{DataCard, dataFrom, wordsStored, cardsStored, judgedFrom}
 use Rattle.rules.specs.Codes.{codes, lookup, checked}
 use Rattle.rules.specs.Machine.{Machine, Inputs, Answer, counting, clearBox, isTraced, isTracing, withState, goingTo, onward, done, undone}
 use Rattle.rules.specs.Orders.{reckonedBy, reckoned, condStopped, gone, largest, raised, five, cardPunched, cardsPunched, punchSize, punched, read, erased, retraced, performed}
 use Rattle.rules.specs.Running.{allowed, obeyedAs, codeDone, obeyed, asDone, orderFits, traceSent, traceSize, traced, fetched, step, runFrom}
 use Rattle.rules.specs.declared.Cell.{Cell}
 use Rattle.rules.specs.declared.Cell.the-variants.{Foreign, Owned}
-use Rattle.rules.specs.declared.Card.{Card}
-use Rattle.rules.specs.declared.Card.the-variants.{Data, First, Bad, End}
 use Rattle.rules.specs.declared.Reckoned.{Reckoned}
 use Rattle.rules.specs.declared.Reckoned.the-variants.{Result, Refused}
 use Rattle.rules.specs.declared.Judged.{Judged}
@@ -62,23 +60,19 @@ unfolding wordsStored
 words-grow d l zero v = same v
 words-grow d l (suc n) v = λ k e. words-grow d l n v k (store-grows (wordsStored d l n v) (l + n) (wordIn d (wordPlace n)) k e)
 
-pub cards-grow : (j : ℕ) (deck : List ℕ) (at end : ℕ) (v : List Cell) → Grows v (cardsStored j deck at end v)
+pub cards-grow : (end : ℕ) (ks : List DataCard) (v : List Cell) → Grows v (cardsStored end ks v)
 unfolding cardsStored
-cards-grow zero deck at end v = same v
-cards-grow (suc j) deck at end v = go (λ a u. cards-grow j deck a end u) (ltb at end) (cardAt deck at) refl refl
+cards-grow end [] v = same v
+cards-grow end (x ∷ ks) v =
+    let u : List Cell = wordsStored (x .rest) (x .location) (x .words) v in
+    go u (λ k e. words-grow (x .rest) (x .location) (x .words) v k (cards-grow end ks u k e)) (ltb (x .place) end)
   where
-    go : ((a : ℕ) (u : List Cell) → Grows u (cardsStored j deck a end u)) → (t : Bool) (x : Card) → ltb at end ≡ t → cardAt deck at ≡ x
-        → Grows v (cardsStored (suc j) deck at end v)
-    go r false x p q = rw (p, cardsStored) (same v)
-    go r true (Data number location words problem size) p q =
-        rw (p, q, cardsStored)
-        (λ k e. words-grow (drop at deck) location words v k (r (at + size) (wordsStored (drop at deck) location words v) k e))
-    go r true (First order problem) p q = rw (p, q, cardsStored) (same v)
-    go r true (Bad f) p q = rw (p, q, cardsStored) (same v)
-    go r true End p q = rw (p, q, cardsStored) (same v)
+    go : (u : List Cell) → Grows v (cardsStored end ks u) → (t : Bool) → Grows v (elim t [ true ↦ cardsStored end ks u | false ↦ v ])
+    go u g true = g
+    go u g false = same v
 
 read-grows : (i : Inputs) (m : Machine) (j : Judged) → Grows (m .cells) (read i m j .machine .cells)
-read-grows i m (Fits end) = cards-grow end (i .deck) (m .state .reader) end (m .cells)
+read-grows i m (Fits end) = cards-grow end (dataFrom (i .deck) (m .state .reader)) (m .cells)
 read-grows i m (Fails r) = same (m .cells)
 
 -- ---- what only punches or moves on
@@ -129,7 +123,7 @@ performed-grows i m (Loop x y z) a b c =
     pick-grows (m .cells) (ltb (largest (m .state) x y z) b) (goingTo (withState m (counting (m .state) (raised (m .state) x y z))) c)
     (onward (withState m (counting (m .state) clearBox))) (same (m .cells)) (same (m .cells))
 performed-grows i m (Change k x) a b c = store-grows (m .cells) b _
-performed-grows i m Read a b c = read-grows i m (judgedFrom 1000 (i .deck) (m .state .reader) b c)
+performed-grows i m Read a b c = read-grows i m (judgedFrom (i .deck) (m .state .reader) b c)
 performed-grows i m Pch a b c = punched-grows i m b (c + 1 - b)
 performed-grows i m (Trace t) a b c = retraced-grows m t
 

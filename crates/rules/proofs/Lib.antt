@@ -13,6 +13,7 @@ pub mod Digits
 pub mod Fields
 pub mod Dues
 pub mod CardTrips
+pub mod Decks
 pub mod Results
 pub mod States
 pub mod Files

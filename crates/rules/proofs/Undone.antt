@@ -73,7 +73,7 @@ performed-stays i m Move a b c = false-true
 performed-stays i m (Go g) a b c = gone-stays i m g b c
 performed-stays i m (Loop x y z) a b c = false-true
 performed-stays i m (Change k x) a b c = false-true
-performed-stays i m Read a b c = read-stays i m (judgedFrom 1000 (i .deck) (m .state .reader) b c)
+performed-stays i m Read a b c = read-stays i m (judgedFrom (i .deck) (m .state .reader) b c)
 performed-stays i m Pch a b c = punched-stays i m b (c + 1 - b)
 performed-stays i m (Trace t) a b c = false-true
 

@@ -5,7 +5,7 @@ use mathlib.Core.Bool.{Bool, true}
 use lib.Dec.{eqb, leb, ltb}
 use lib.ListN.{length, getD}
 use Rattle.rules.specs.Words.{pick, both}
-use Rattle.rules.specs.declared.Fault.the-variants.{UnknownKind, SecondFirst, CutShort, BadByte, BadPlace}
+use Rattle.rules.specs.declared.Fault.the-variants.{UnknownKind, CutShort, BadByte, BadPlace}
 use Rattle.rules.specs.declared.Card.{Card}
 use Rattle.rules.specs.declared.Card.the-variants.{Data, First, Bad, End}
 
@@ -119,19 +119,19 @@ badFrom n d o (suc k) = pick (isDue n o (getD d o 0)) (badFrom n d (suc o) k) o
 abbrev pub cellsFit : ℕ → ℕ → Bool
 cellsFit location n = both (leb 1 location) (leb (location + n) 1000)
 
--- a card of that many words and bytes, if it is whole and each byte is the one due; else its fault
+-- a card of that many words and bytes, if it is whole and each byte is the one due; else its fault and the offending byte
 abbrev pub wholeCard : ℕ → ℕ → List ℕ → Card → Card
 wholeCard n size d card =
-    pick (ltb (length d) size) (Bad CutShort)
-    (pick (ltb (badFrom n d 1 (size - 1)) size) (Bad (BadByte (badFrom n d 1 (size - 1)))) card)
+    pick (ltb (length d) size) (Bad CutShort 0)
+    (pick (ltb (badFrom n d 1 (size - 1)) size) (Bad BadByte (badFrom n d 1 (size - 1))) card)
 
 unfoldable pub dataOf : ℕ → List ℕ → Card
 dataOf n d =
     wholeCard n (dataSize n) d
-    (pick (cellsFit (numberIn d 5 3) n) (Data (numberIn d 1 4) (numberIn d 5 3) n (numberIn d (wordPlace n) 3) (dataSize n)) (Bad (BadPlace 5)))
+    (pick (cellsFit (numberIn d 5 3) n) (Data (numberIn d 1 4) (numberIn d 5 3) n (numberIn d (wordPlace n) 3) (dataSize n)) (Bad BadPlace 5))
 
 unfoldable pub firstOf : List ℕ → Card
-firstOf d = wholeCard 0 firstSize d (pick (cellsFit (numberIn d 1 3) 1) (First (numberIn d 1 3) (numberIn d 4 3)) (Bad (BadPlace 1)))
+firstOf d = wholeCard 0 firstSize d (pick (cellsFit (numberIn d 1 3) 1) (First (numberIn d 1 3) (numberIn d 4 3)) (Bad BadPlace 1))
 
 -- the card of a kind: kinds 1 to 5 and T stand in decks
 abbrev pub isDataKind : ℕ → Bool
@@ -140,8 +140,4 @@ isDataKind k = both (leb 49 k) (leb k 53)
 unfoldable pub cardOf : List ℕ → Card
 cardOf [] = End
 cardOf (k ∷ d) =
-    pick (isDataKind k) (dataOf (k - zeroByte) (k ∷ d)) (pick (eqb k firstKind) (firstOf (k ∷ d)) (Bad UnknownKind))
-
--- the same behind a first-order card, where a second one is a fault whatever its bytes
-unfoldable pub cardBehind : List ℕ → Card
-cardBehind d = pick (eqb (getD d 0 0) firstKind) (Bad SecondFirst) (cardOf d)
+    pick (isDataKind k) (dataOf (k - zeroByte) (k ∷ d)) (pick (eqb k firstKind) (firstOf (k ∷ d)) (Bad UnknownKind 0))

@@ -95,13 +95,13 @@ isStop d =
 abbrev pub linesBy : Card → List ℕ → List ℕ
 linesBy (Data number location n problem size) d = dataLines d location n
 linesBy (First order problem) d = firstLine d
-linesBy (Bad f) d = pick (isTrace d) (traceLines d) (pick (isStop d) (stopLine d) [])
+linesBy (Bad f b) d = pick (isTrace d) (traceLines d) (pick (isStop d) (stopLine d) [])
 linesBy End d = []
 
 abbrev pub sizeBy : Card → List ℕ → ℕ
 sizeBy (Data number location n problem size) d = size
 sizeBy (First order problem) d = firstSize
-sizeBy (Bad f) d = pick (isTrace d) (dataSize 6) (pick (isStop d) stopSize 0)
+sizeBy (Bad f b) d = pick (isTrace d) (dataSize 6) (pick (isStop d) stopSize 0)
 sizeBy End d = 0
 
 unfoldable pub linesOf : List ℕ → List ℕ

@@ -1,12 +1,11 @@
 -- A whole call of load, with its entry checks. Assumes nothing.
-use Prim.Native.Nat.{ℕ, _-_}
+use Prim.Native.Nat.{ℕ}
 use mathlib.Core.List.{List}
 use mathlib.Core.Bool.{Bool, true, false}
-use lib.ListN.{length, drop}
+use lib.ListN.{length}
 use Rattle.rules.specs.Words.{pick}
 use Rattle.rules.specs.Drum.{view, store, marksOf, overlay, drumFits}
-use Rattle.rules.specs.Cards.{firstSize, numberIn}
-use Rattle.rules.specs.Decks.{cardsStored, deckOf}
+use Rattle.rules.specs.Decks.{dataFrom, cardsStored, deckOf}
 use Rattle.rules.specs.Machine.{clearBox}
 use Rattle.rules.specs.declared.Cell.{Cell}
 use Rattle.rules.specs.declared.State.{State}
@@ -40,15 +39,15 @@ abbrev pub modeOf : Bool → ℕ
 modeOf true = 1
 modeOf false = 0
 
--- The state that a load leaves: the first order and the problem number are those of the first-order card t, loop box and counter are
--- clear, the reader is behind t, and a traced load starts with tracing on.
-abbrev pub fresh : List ℕ → ℕ → Bool → State
-fresh t behind traced =
+-- The state that a load leaves: the first order and the problem number are those of the first-order card, loop box and counter are
+-- clear, the reader is behind that card, and a traced load starts with tracing on.
+abbrev pub fresh : ℕ → ℕ → ℕ → Bool → State
+fresh behind order problem traced =
     record {
-      location = numberIn t 1 3;
+      location = order;
       counts = clearBox;
       counter = 0;
-      problem = numberIn t 4 3;
+      problem = problem;
       reader = behind;
       mode = modeOf traced;
       tracing = modeOf traced;
@@ -56,15 +55,15 @@ fresh t behind traced =
 
 -- the cards before the first-order card are stored, and cell 000 becomes +0
 abbrev pub cellsLoaded : List Cell → List ℕ → ℕ → List Cell
-cellsLoaded v deck end = store (cardsStored end deck 0 end v) 0 0
+cellsLoaded v deck behind = store (cardsStored behind (dataFrom deck 0) v) 0 0
 
 unfoldable pub loadedFrom : LoadCall → Deck → LoadResult
 loadedFrom c (Faulty f) = notLoaded c (BadDeck f)
-loadedFrom c (Good behind) =
-    let v = cellsLoaded (view (c .drum) (c .marks)) (c .deck) (behind - firstSize) in
+loadedFrom c (Good behind order problem) =
+    let v = cellsLoaded (view (c .drum) (c .marks)) (c .deck) behind in
     record {
       loading = Loaded;
-      state = fresh (drop (behind - firstSize) (c .deck)) behind (c .traced);
+      state = fresh behind order problem (c .traced);
       drum = overlay (c .drum) v;
       marks = marksOf v;
     }

@@ -83,12 +83,12 @@ triesAgain (Undone r) = true
 -- A faulty deck. Every fault of a card is told at the card's kind byte.
 abbrev pub deckNumber : DeckFault → ℕ
 deckNumber TooLong = 11
-deckNumber (At p f) = 11
+deckNumber (At p f b) = 11
 deckNumber (NoFirst p) = 11
 
 abbrev pub deckPlace : DeckFault → ℕ
 deckPlace TooLong = 65536
-deckPlace (At p f) = p
+deckPlace (At p f b) = p
 deckPlace (NoFirst p) = p
 
 -- a call refused at its entry

@@ -9,7 +9,7 @@ use Rattle.rules.specs.Words.{pick, both, signIn, digitsIn, exponentIn, 
 use Rattle.rules.specs.Arithmetic.{addOf, subOf, mpyOf, divOf, ngmpyOf, sqrtOf, absOf}
 use Rattle.rules.specs.Drum.{wordAt}
 use Rattle.rules.specs.Cards.{dataCard}
-use Rattle.rules.specs.Decks.{cardsStored, judgedFrom}
+use Rattle.rules.specs.Decks.{dataFrom, cardsStored, judgedFrom}
 use Rattle.rules.specs.Machine.{Machine, Inputs, Answer, counting, countA, countB, countC, clearBox, numbered, readTo, tracingSet, isTraced, withState, stored, sending, goingTo, onward, done, undone, stops}
 use Rattle.rules.specs.declared.Cell.{Cell}
 use Rattle.rules.specs.declared.State.{State}
@@ -158,7 +158,7 @@ read i m (Fits end) =
     done
     (onward
     (record {
-      cells = cardsStored end (i .deck) (m .state .reader) end (m .cells);
+      cells = cardsStored end (dataFrom (i .deck) (m .state .reader)) (m .cells);
       sent = m .sent;
       state = readTo (m .state) end;
     }))
@@ -186,6 +186,6 @@ performed i m Move a b c = done (onward (resultAt m c (wordAt (m .cells) b)))
 performed i m (Go g) a b c = gone i m g b c
 performed i m (Loop x y z) a b c = done (looped m x y z b c)
 performed i m (Change k x) a b c = done (changed m k x b c)
-performed i m Read a b c = read i m (judgedFrom 1000 (i .deck) (m .state .reader) b c)
+performed i m Read a b c = read i m (judgedFrom (i .deck) (m .state .reader) b c)
 performed i m Pch a b c = punched i m b (c + 1 - b)
 performed i m (Trace t) a b c = done (retraced m t)

@@ -11,7 +11,7 @@ use Rattle.rules.specs.Words.{pick, both, signIn, firstDigit, aIn, bIn, 
 use Rattle.rules.specs.Numbers.{completed, mayGoOn}
 use Rattle.rules.specs.Drum.{view, cellAt, wordAt, isOwned, marksOf, overlay, drumFits}
 use Rattle.rules.specs.Cards.{traceCard}
-use Rattle.rules.specs.Decks.{deckOf, startsAt}
+use Rattle.rules.specs.Decks.{deckOf, mayStand}
 use Rattle.rules.specs.Codes.{codes, lookup, codeIn, pchCode, noopCode, checked}
 use Rattle.rules.specs.Machine.{Machine, Inputs, Answer, countA, countB, countC, numbered, isTraced, isTracing, withState, sending, undone}
 use Rattle.rules.specs.Orders.{performed}
@@ -183,7 +183,7 @@ abbrev pub boxFits : State → Bool
 boxFits s = both (leb (countA s) 999) (both (leb (countB s) 999) (leb (countC s) 999))
 
 unfoldable pub stateFits : List Cell → List ℕ → ℕ → State → ℕ → Bool
-stateFits v deck first s budget =
+stateFits v deck behind s budget =
     both (leb budget 999999)
     (both (leb (s .location) 1000)
     (both (boxFits s)
@@ -191,12 +191,12 @@ stateFits v deck first s budget =
     (both (leb (s .problem) 999)
     (both (leb (s .mode) 1)
     (both (leb (s .tracing) (s .mode))
-    (both (isOwned (cellAt v 0)) (startsAt (length deck + 1) deck first (s .reader)))))))))
+    (both (isOwned (cellAt v 0)) (mayStand deck behind (s .reader)))))))))
 
 unfoldable pub ranOn : RunCall → Deck → RunResult
 ranOn c (Faulty f) = notRun c (BadDeck f)
-ranOn c (Good first) =
-    pick (stateFits (view (c .drum) (c .marks)) (c .deck) first (c .state) (c .budget))
+ranOn c (Good behind order problem) =
+    pick (stateFits (view (c .drum) (c .marks)) (c .deck) behind (c .state) (c .budget))
     (ranAs c (runFrom (inputs c) (c .budget) (begun c) 0))
     (notRun c BadState)
 

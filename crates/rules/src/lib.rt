@@ -27,16 +27,16 @@ pub enum Reckoned {
     Refused(Refusal),
 }
 
-// What is wrong with one card. A place is counted from the card's kind byte.
+// What is wrong with one card.
 pub enum Fault {
     UnknownKind,
     SecondFirst,
     CutShort,
-    BadByte(usize),
-    BadPlace(usize),
+    BadByte,
+    BadPlace,
 }
 
-// One card at the start of what is left of a deck.
+// One card at the start of what is left of a deck. Of a card with a fault the offending byte is told, counted from the card's kind byte.
 pub enum Card {
     Data {
         number: u64,
@@ -49,20 +49,29 @@ pub enum Card {
         order: usize,
         problem: u64,
     },
-    Bad(Fault),
+    Bad(Fault, usize),
     End,
 }
 
-// What is wrong with a deck: its length, the card at a place, or that it has no first-order card.
+// What is wrong with a deck: its length, the fault of the card at a place with the offending byte, or that it has no first-order card.
+// Places are counted from the deck's start.
 pub enum DeckFault {
     TooLong,
-    At(usize, Fault),
+    At {
+        card: usize,
+        fault: Fault,
+        byte: usize,
+    },
     NoFirst(usize),
 }
 
-// A deck as checked: good, with the place behind its first-order card, or faulty.
+// A deck as checked: good, with the place behind its first-order card and what that card says, or faulty.
 pub enum Deck {
-    Good(usize),
+    Good {
+        behind: usize,
+        order: usize,
+        problem: u64,
+    },
     Faulty(DeckFault),
 }
 
