@@ -1,0 +1,85 @@
+// The checks 20 and 21, by the operand class of the order. That operands are numbers, 24, arithmetic finds out itself.
+ghost use mathlib.Core.Path.{_≡_};
+ghost use Rattle.rules.specs.Codes.{ownedAt, blockFits, unless, andThen, addressCheck, markCheck};
+ghost use Rattle.rules.specs.Drum.{view};
+ghost use Rattle.rules.specs.declared.Refusal.the-variants.{Unmarked};
+ghost use Rattle.rules.specs.declared.Class.the-variants.{BlockOut};
+use rules::Checked;
+use rules::Class;
+use rules::Refusal;
+
+// 21 for one cell.
+fn check_word(drum: &[u64], marks: &[u8], a: usize) -> Checked
+    ensures { λ r. ⌜ r ≡ unless (ownedAt (view (now (drum .entry)) (now (marks .entry))) a) Unmarked ⌝ }
+{
+    if drum::is_owned(drum, marks, a) {
+        return Checked::Passes;
+    }
+    Checked::Refuses(Refusal::Unmarked)
+}
+
+// 21 for two cells.
+fn check_words(drum: &[u64], marks: &[u8], a: usize, b: usize) -> Checked
+    ensures { λ r. ⌜ r ≡ andThen (unless (ownedAt (view (now (drum .entry)) (now (marks .entry))) a) Unmarked)
+        (unless (ownedAt (view (now (drum .entry)) (now (marks .entry))) b) Unmarked) ⌝ }
+{
+    if drum::is_owned(drum, marks, a) {
+        return check_word(drum, marks, b);
+    }
+    Checked::Refuses(Refusal::Unmarked)
+}
+
+// Whether B is not 000 nor above C.
+fn block_fits(b: usize, c: usize) -> bool
+    ensures { λ r. ⌜ r ≡ blockFits b c ⌝ }
+{
+    if b < 1 {
+        return false;
+    }
+    b <= c
+}
+
+// 20, and 21 for the cells b to c.
+fn check_block(drum: &[u64], marks: &[u8], a: usize, b: usize, c: usize) -> Checked
+    ensures { λ r. ⌜ r ≡ andThen (addressCheck BlockOut b c) (markCheck BlockOut (view (now (drum .entry)) (now (marks .entry))) a b c) ⌝ }
+{
+    if !block_fits(b, c) {
+        return Checked::Refuses(Refusal::BadAddress);
+    }
+    let n = c - b;
+    if drum::all_owned(drum, marks, b, n + 1) {
+        return Checked::Passes;
+    }
+    Checked::Refuses(Refusal::Unmarked)
+}
+
+// The checks 20 and 21 of a class.
+pub fn check(drum: &[u64], marks: &[u8], k: Class, a: usize, b: usize, c: usize) -> Checked
+    ensures { λ r. ⌜ r ≡ andThen (addressCheck k b c) (markCheck k (view (now (drum .entry)) (now (marks .entry))) a b c) ⌝ }
+{
+    match k {
+        Class::Free => Checked::Passes,
+        Class::TwoNumbers => check_words(drum, marks, a, b),
+        Class::OneNumber => check_word(drum, marks, b),
+        Class::OneWord => check_word(drum, marks, b),
+        Class::Changed => {
+            if b < 1 {
+                return Checked::Refuses(Refusal::BadAddress);
+            }
+            check_word(drum, marks, b)
+        }
+        Class::Linked => {
+            if c < 1 {
+                return Checked::Refuses(Refusal::BadAddress);
+            }
+            check_word(drum, marks, c)
+        }
+        Class::BlockOut => check_block(drum, marks, a, b, c),
+        Class::BlockIn => {
+            if block_fits(b, c) {
+                return Checked::Passes;
+            }
+            Checked::Refuses(Refusal::BadAddress)
+        }
+    }
+}
