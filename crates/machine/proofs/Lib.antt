@@ -1,1 +1,5 @@
 mod Shown
+mod Boxes
+mod Sent
+mod Traces
+mod Punches

@@ -2,8 +2,11 @@
 mod changing;
 mod going;
 mod looping;
+mod punching;
 mod reckoning;
 mod rows;
+mod sums;
+mod telling;
 mod tracing;
 
 use rules::Ending;
