@@ -4,10 +4,10 @@ use mathlib.Core.Path.{_≡_, refl, ap, _∙_}
 use mathlib.Core.List.{List, [], _∷_}
 use mathlib.Core.Bool.{Bool, true, false}
 use native.Mathlib.Omega.{arith}
-use lib.Dec.{eqb, leb}
+use lib.Dec.{leb}
 use lib.ListN.{length, getD}
 use borrow.Author.Tests.{leb-true}
-use Rattle.rules.specs.Words.{pick, both, signIn, aIn, bIn, cIn}
+use Rattle.rules.specs.Words.{pick, both, aIn, bIn, cIn}
 use Rattle.rules.specs.Machine.{Machine, countA, countB, countC, counting}
 use Rattle.rules.specs.Running.{isMinus, sumsFit, orderFits, boxWord, asDone}
 use Rattle.rules.specs.declared.State.{State}

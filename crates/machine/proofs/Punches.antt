@@ -23,6 +23,7 @@ use Rattle.drum.proofs.Cells.{seen}
 use Rattle.drum.proofs.Runs.{gathered}
 use Rattle.machine.specs.Lent.{rowOf, Fitting, Shows, Did, Sends}
 use Rattle.machine.specs.Stated.{numberedRow, cardSent}
+use Rattle.machine.specs.Fives.{NextCard}
 use Rattle.machine.proofs.Shown.{went-on, stays}
 use Rattle.machine.proofs.Sent.{partOf, putBack, out-long, written-is, card-shown, still-fits, no-further}
 
@@ -99,24 +100,6 @@ pub record Punching (drum marks out₁ row₁ : List ℕ) (b n : ℕ) (out row :
       (drum₀ out₀ : List ℕ) (m : Machine) → Shows drum₀ out₀ drum marks out₁ row₁ m
       → (u : Machine) × Shows drum₀ out₀ drum marks out row u × (cardsPunched cards u next left ≡ cardsPunched n m b n)
 
--- the size of the first card, and of the rest
-pub record Five (left k : ℕ) : Type 0 where
-  pub some : 1 ≤ k
-  pub upto : k ≤ left
-  pub few : k ≤ 5
-  pub size : punchSize left ≡ 11 + 11 * k + punchSize (left - k)
-
-pub five-of : (left k : ℕ) → 0 < left → k ≡ five left → Five left k
-five-of left k l e = by-test (ltb left 5) refl e
-  where
-    by-test : (t : Bool) → ltb left 5 ≡ t → k ≡ pick t left 5 → Five left k
-    by-test true f q =
-        let g : left < 5 = ltb-true left 5 f in
-        record { some = omega arith; upto = omega arith; few = omega arith; size = omega arith }
-    by-test false f q =
-        let g : 5 ≤ left = ltb-false left 5 f in
-        record { some = omega arith; upto = omega arith; few = omega arith; size = omega arith }
-
 more : (j : ℕ) (m : Machine) (b n : ℕ) → (n ≡ 0 → ⊥) → cardsPunched (suc j) m b n ≡ cardsPunched j (cardPunched m b (five n)) (b + five n) (n - five n)
 unfolding cardsPunched
 more j m b n z = rw (ne-eqb n 0 z, cardsPunched)
@@ -128,19 +111,16 @@ none-left (suc j) m b n z = rw (eq-eqb n 0 z, cardsPunched)
 
 module _ {drum marks out₁ row₁ : List ℕ} {b n : ℕ} {out row : List ℕ} {next left : ℕ}
     (i : Punching drum marks out₁ row₁ b n out row next left) where
-  pub punching-more : {k : ℕ} {out′ row′ : List ℕ} → 0 < left → k ≡ five left → length out′ ≡ length out → row′ ≡ cardSent row (11 + 11 * k)
+  pub punching-more : {k : ℕ} {out′ row′ : List ℕ} → NextCard left k → length out′ ≡ length out → row′ ≡ cardSent row (11 + 11 * k)
       → Sends drum marks out row out′ row′ (λ m. cardPunched m next k)
       → Punching drum marks out₁ row₁ b n out′ row′ (next + k) (left - k)
-  punching-more {k} {out′} {row′} l e g f x = by-cards (i .cards) (i .enough) (i .sends)
+  punching-more {k} {out′} {row′} w g f x = by-cards (i .cards) (i .enough) (i .sends)
     where
-      w : Five left k
-      w = five-of left k l e
-
       by-cards : (j : ℕ) → left ≤ j
           → ((drum₀ out₀ : List ℕ) (m : Machine) → Shows drum₀ out₀ drum marks out₁ row₁ m
           → (u : Machine) × Shows drum₀ out₀ drum marks out row u × (cardsPunched j u next left ≡ cardsPunched n m b n))
           → Punching drum marks out₁ row₁ b n out′ row′ (next + k) (left - k)
-      by-cards zero q y = let z : ⊥ = omega arith in absurd z
+      by-cards zero q y = let z : ⊥ = omega (arith, w .some, w .upto) in absurd z
       by-cards (suc j) q y =
           record {
             long = g ∙ i .long;
@@ -154,7 +134,7 @@ module _ {drum marks out₁ row₁ : List ℕ} {b n : ℕ} {out row : List ℕ} 
             sends = λ drum₀ out₀ m h.
                 let v = y drum₀ out₀ m h in
                 let r : cardsPunched j (cardPunched (v .0) next k) (next + k) (left - k) ≡ cardsPunched (suc j) (v .0) next left =
-                ap (λ (a : ℕ). cardsPunched j (cardPunched (v .0) next a) (next + a) (left - a)) e ∙ sym (more j (v .0) next left (omega arith)) in
+                ap (λ (a : ℕ). cardsPunched j (cardPunched (v .0) next a) (next + a) (left - a)) (w .is-five) ∙ sym (more j (v .0) next left (omega (arith, w .some, w .upto))) in
                 (cardPunched (v .0) next k, x drum₀ out₀ (v .0) (v .1), r ∙ v .2);
           }
 

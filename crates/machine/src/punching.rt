@@ -3,9 +3,10 @@ ghost use mathlib.Core.Path.{_≡_};
 ghost use Prim.Native.Nat.{_+_, _*_, _-_, _<_, _≤_};
 ghost use lib.ListN.{length, getD};
 ghost use Rattle.rules.specs.Machine.{Inputs, onward};
-ghost use Rattle.rules.specs.Orders.{five, cardPunched, cardsPunched, punchSize, punched};
+ghost use Rattle.rules.specs.Orders.{cardPunched, cardsPunched, punchSize, punched};
 ghost use Rattle.machine.specs.Lent.{Fitting, Sends, Does};
 ghost use Rattle.machine.specs.Stated.{cardSent};
+ghost use Rattle.machine.specs.Fives.{NextCard};
 use crate::rows::COUNTER;
 use crate::rows::PROBLEM;
 use crate::rows::WRITTEN;
@@ -16,7 +17,8 @@ use rules::Refusal;
 
 // How many words the next card has.
 fn at_most_five(n: usize) -> usize
-    ensures { λ r. ⌜ r ≡ five n ⌝ }
+    requires { ⌜ 0 < n ⌝ }
+    ensures { λ r. ⌜ NextCard n r ⌝ }
 {
     if n < 5 {
         return n;

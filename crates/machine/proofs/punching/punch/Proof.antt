@@ -49,7 +49,7 @@ returns-2 c =
     let cards : tie.After-punch-cards = search in
     let a = start .args in
     λ i drum₀ out₀ m e h.
-        punch-done h i (a .b) (a .c + 1 - a .b) e (omega (arith, one .if1 .left, start .pre .1 .3)) (cards .punch-cards .ensures drum₀ out₀ m h)
+    punch-done h i (a .b) (a .c + 1 - a .b) e (omega (arith, one .if1 .left, start .pre .1 .3)) (cards .punch-cards .ensures drum₀ out₀ m h)
 
 pub punch-spec : {M : Type 1} → statement M
 punch-spec =

@@ -1,7 +1,7 @@
 -- `machine::punching::punch_card` meets its contract: the words gathered are those of the cells, and the writer is given fields in
 -- range. Assumes nothing.
 use Prim.Native.Nat.{ℕ, _+_, _*_}
-use mathlib.Core.Path.{_≡_, ap}
+use mathlib.Core.Path.{ap}
 use mathlib.Core.List.{List}
 use lib.ListN.{getD, set}
 use borrow.Author.Needs.{needs}
@@ -58,10 +58,12 @@ returns c =
     let next : tie.After-number-next = search in
     let wrote : tie.After-write-data = search in
     let row : List ℕ = start .args .row .now in
-    let e = ap (λ (r : List ℕ). set r 9 (getD row 9 0 + (11 + 11 * start .args .n))) (next .number-next .ensures) in
-    (e, λ drum₀ out₀ m h.
-        card-sent h (start .pre .1 .0) (start .pre .1 .1) (start .pre .1 .2) (start .pre .1 .3) (start .pre .1 .4)
-        (first .first-words .ensures) (next .number-next .ensures) (wrote .write-data .ensures) e)
+    let e = ap (λ (r : List ℕ). set r 9 (getD row 9 0 + (11 + 11 * start .args .n))) (next .number-next .ensures) in (
+      e,
+      λ drum₀ out₀ m h.
+          card-sent h (start .pre .1 .0) (start .pre .1 .1) (start .pre .1 .2) (start .pre .1 .3) (start .pre .1 .4)
+          (first .first-words .ensures) (next .number-next .ensures) (wrote .write-data .ensures) e,
+    )
 
 pub punch-card-spec : {M : Type 1} → statement M
 punch-card-spec =

@@ -3,7 +3,7 @@
 use mathlib.Core.Path.{refl}
 use native.Mathlib.Omega.{arith}
 use borrow.Author.Needs.{needs}
-use Rattle.machine.proofs.Punches.{Punching, five-of, punching-more, punching-end}
+use Rattle.machine.proofs.Punches.{Punching, punching-more, punching-end}
 use Rattle.machine.proofs.punching.punch_cards.Statement.{statement}
 use Rattle.machine.proofs.punching.punch_cards.Tie as tie
 
@@ -31,54 +31,29 @@ at-most-five-requires : tie.Need-at-most-five-requires Inv-loop μ-loop
 at-most-five-requires c κs = search needs
 
 punch-card-requires : tie.Need-punch-card-requires Inv-loop μ-loop
-punch-card-requires c κs =
-    let at : tie.At-loop Inv-loop μ-loop = search in
-    let turn : tie.In-loop Inv-loop μ-loop = search in
-    let k : tie.After-at-most-five Inv-loop μ-loop = search in
-    let w = five-of (at .loop .left) (k .at-most-five .result) (turn .loop-test .taken) (k .at-most-five .ensures) in
-    (at .loop .inv .fitting, (at .loop .inv .low, omega (arith, w .upto, at .loop .inv .inside), w .some, w .few, omega (arith, w .size, at .loop .inv .room)))
+punch-card-requires c κs = search needs
 
 add-next : tie.Need-add-next Inv-loop μ-loop
-add-next c =
-    let at : tie.At-loop Inv-loop μ-loop = search in
-    let turn : tie.In-loop Inv-loop μ-loop = search in
-    let k : tie.After-at-most-five Inv-loop μ-loop = search in
-    let w = five-of (at .loop .left) (k .at-most-five .result) (turn .loop-test .taken) (k .at-most-five .ensures) in
-    omega (arith, w .upto, at .loop .inv .inside)
+add-next c = search needs
 
 sub-left : tie.Need-sub-left Inv-loop μ-loop
-sub-left c =
-    let at : tie.At-loop Inv-loop μ-loop = search in
-    let turn : tie.In-loop Inv-loop μ-loop = search in
-    let k : tie.After-at-most-five Inv-loop μ-loop = search in
-    let w = five-of (at .loop .left) (k .at-most-five .result) (turn .loop-test .taken) (k .at-most-five .ensures) in
-    w .upto
+sub-left c = search needs
 
 loop-less : tie.Need-loop-less Inv-loop μ-loop
-loop-less c =
-    let at : tie.At-loop Inv-loop μ-loop = search in
-    let turn : tie.In-loop Inv-loop μ-loop = search in
-    let k : tie.After-at-most-five Inv-loop μ-loop = search in
-    let w = five-of (at .loop .left) (k .at-most-five .result) (turn .loop-test .taken) (k .at-most-five .ensures) in
-    omega (arith, w .some, turn .loop-test .taken)
+loop-less c = search needs
 
 loop-again : tie.Need-loop-again Inv-loop μ-loop
 loop-again c =
     let at : tie.At-loop Inv-loop μ-loop = search in
-    let turn : tie.In-loop Inv-loop μ-loop = search in
     let k : tie.After-at-most-five Inv-loop μ-loop = search in
     let card : tie.After-punch-card Inv-loop μ-loop = search in
-    punching-more (at .loop .inv) (turn .loop-test .taken) (k .at-most-five .ensures) (card .punch-card .kept .1 .1 .0) (card .punch-card .ensures .0) (card .punch-card .ensures .1)
+    punching-more (at .loop .inv) (k .at-most-five .ensures) (card .punch-card .kept .1 .1 .0) (card .punch-card .ensures .0) (card .punch-card .ensures .1)
 
 go-on-requires : tie.Need-go-on-requires Inv-loop μ-loop
-go-on-requires c κs =
-    let at : tie.At-loop Inv-loop μ-loop = search in
-    at .loop .inv .fitting
+go-on-requires c κs = search needs
 
 same-length : tie.Need-same-length Inv-loop μ-loop
-same-length c =
-    let at : tie.At-loop Inv-loop μ-loop = search in
-    at .loop .inv .long
+same-length c = search needs
 
 returns : tie.Need-returns Inv-loop μ-loop
 returns c =

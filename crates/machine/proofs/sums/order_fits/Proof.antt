@@ -1,12 +1,12 @@
 -- `machine::sums::order_fits` meets its contract: the sums are tested one by one. Assumes nothing.
-use Prim.Native.Nat.{ℕ, _+_, _<_, _≤_}
-use mathlib.Core.Path.{_≡_, sym, ap, _∙_}
+use Prim.Native.Nat.{ℕ, _+_}
+use mathlib.Core.Path.{sym, ap, _∙_}
 use mathlib.Core.List.{List}
 use native.Mathlib.Omega.{arith}
 use lib.Dec.{leb}
 use lib.ListN.{getD}
 use borrow.Author.Tests.{not-true, not-false, le-leb, lt-leb}
-use Rattle.rules.specs.Words.{aIn, bIn, cIn}
+use Rattle.rules.specs.Words.{aIn, bIn}
 use borrow.Author.Needs.{needs}
 use Rattle.machine.proofs.sums.order_fits.Statement.{statement}
 use Rattle.machine.proofs.sums.order_fits.Tie as tie

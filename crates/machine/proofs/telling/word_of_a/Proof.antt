@@ -1,6 +1,5 @@
 -- `machine::telling::word_of_a` meets its contract: O1 is 0 where the key is below 1000. Assumes nothing.
-use Prim.Native.Nat.{ℕ}
-use mathlib.Core.Path.{_≡_, ap, _∙_}
+use mathlib.Core.Path.{ap, _∙_}
 use native.Mathlib.Omega.{arith}
 use borrow.Author.Tests.{lt-ltb, le-ltb}
 use Rattle.rules.specs.Words.{aIn, firstDigit}
