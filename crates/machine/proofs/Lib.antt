@@ -3,3 +3,7 @@ mod Stores
 mod Changes
 mod Loops
 mod Tracings
+mod Boxes
+mod Sent
+mod Traces
+mod Punches

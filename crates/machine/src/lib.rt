@@ -3,8 +3,11 @@ mod changing;
 mod checks;
 mod going;
 mod looping;
+mod punching;
 mod reckoning;
 mod rows;
+mod sums;
+mod telling;
 mod tracing;
 
 use rules::Ending;
