@@ -59,7 +59,7 @@ pub fn write_lines(out: &mut [u8], rest: &[u8]) -> Lines
             let written = write_first(out, rest);
             Lines { written, taken: 7 }
         }
-        Card::Bad(_) => write_other(out, rest),
+        Card::Bad(_, _) => write_other(out, rest),
         Card::End => Lines {
             written: 0,
             taken: 0,

@@ -2,18 +2,16 @@
 use Prim.Native.Nat.{ℕ, zero, suc, _+_, _<_}
 use native.Mathlib.Nat.{zero-add, add-zero, zero-lt-suc}
 use native.Mathlib.Omega.{arith}
-use mathlib.Core.Path.{_≡_, refl, sym, _∙_}
-use mathlib.Core.List.{List}
+use mathlib.Core.Path.{_≡_, refl, sym, ap, _∙_}
 use mathlib.Core.Bool.{Bool, true, false}
 use lib.ListN.{length}
 use Rattle.rules.specs.Numbers.{completed, mayGoOn}
 use Rattle.rules.specs.Drum.{view, drumFits}
 use Rattle.rules.specs.Decks.{deckOf}
 use Rattle.rules.specs.Machine.{Machine, Inputs}
-use Rattle.rules.specs.Running.{Course, step, runFrom, RunResult, over, ranAs, stateFits, ranOn, ran}
-use Rattle.rules.specs.declared.State.{State}
+use Rattle.rules.specs.Running.{Course, step, runFrom, RunCall, RunResult, begun, inputs, over, ranAs, stateFits, ranOn, ran}
 use Rattle.rules.specs.declared.Outcome.{Outcome}
-use Rattle.rules.specs.declared.Outcome.the-variants.{GoesOn, Stopped, Paused, Undone}
+use Rattle.rules.specs.declared.Outcome.the-variants.{GoesOn, Stops, Undone}
 use Rattle.rules.specs.declared.Deck.{Deck}
 use Rattle.rules.specs.declared.Deck.the-variants.{Good, Faulty}
 use Rattle.rules.specs.declared.Bar.{Bar}
@@ -25,8 +23,7 @@ use Rattle.promises.specs.Counting.{Steps, none, next, Comes, usedUp, en
 -- only one outcome lets a run go on
 goes-on : (o : Outcome) → mayGoOn o ≡ true → o ≡ GoesOn
 goes-on GoesOn e = refl
-goes-on (Stopped w) e = let z : _≡_ {A = ℕ} 0 1 = cc in let y : ⊥ = omega arith in absurd y
-goes-on (Paused w) e = let z : _≡_ {A = ℕ} 0 1 = cc in let y : ⊥ = omega arith in absurd y
+goes-on (Stops k w) e = let z : _≡_ {A = ℕ} 0 1 = cc in let y : ⊥ = omega arith in absurd y
 goes-on (Undone r) e = let z : _≡_ {A = ℕ} 0 1 = cc in let y : ⊥ = omega arith in absurd y
 
 -- the same with n orders completed before
@@ -63,24 +60,30 @@ count-is-steps i budget m = from-none (runFrom i budget m 0) (from i budget m 0)
 differs : {A : Type 0} (o : Outcome) (b : Bar) → NotRun b ≡ Ran o → A
 differs o b e = let z : _≡_ {A = ℕ} 0 1 = cc in let y : ⊥ = omega arith in absurd y
 
-abbrev idle : (drum marks out : List ℕ) → State → RunResult
-idle drum marks out s =
-    record { ending = Ran GoesOn; count = 0; written = 0; state = s; drum = drum; marks = marks; out = out }
+abbrev idle : RunCall → RunResult
+idle c =
+    record { ending = Ran GoesOn; count = 0; written = 0; state = c .state; drum = c .drum; marks = c .marks; out = c .out }
 
-module _ (drum marks deck out : List ℕ) (s : State) (stop : Bool) (o : Outcome) (h : Fit drum marks) where
-  zero-from : (k : Deck) → ranOn drum marks deck out s 0 stop k .ending ≡ Ran o → ranOn drum marks deck out s 0 stop k ≡ idle drum marks out s
-  unfolding ranOn ranAs runFrom over
+module _ (c : RunCall) (o : Outcome) (z : c .budget ≡ 0) (h : Fit (c .drum) (c .marks)) where
+  nothing-run : ranAs c (runFrom (inputs c) (c .budget) (begun c) 0) ≡ idle c
+  unfolding ranAs runFrom over
+  nothing-run =
+      ap (λ (k : ℕ). ranAs c (runFrom (inputs c) k (begun c) 0)) z ∙ rw (overlay-view (c .drum) (c .marks), marks-again (c .drum) (c .marks) h)
+
+  zero-from : (k : Deck) → ranOn c k .ending ≡ Ran o → ranOn c k ≡ idle c
+  unfolding ranOn
   zero-from (Faulty f) e = differs o (BadDeck f) e
-  zero-from (Good first) e = by-state (stateFits (view drum marks) deck first s 0) refl
+  zero-from (Good behind order problem) e = by-state (stateFits (view (c .drum) (c .marks)) (c .deck) behind (c .state) (c .budget)) refl
     where
-      by-state : (t : Bool) → stateFits (view drum marks) deck first s 0 ≡ t → ranOn drum marks deck out s 0 stop (Good first) ≡ idle drum marks out s
-      by-state true f = rw (f, overlay-view drum marks, marks-again drum marks h)
+      by-state : (t : Bool) → stateFits (view (c .drum) (c .marks)) (c .deck) behind (c .state) (c .budget) ≡ t
+          → ranOn c (Good behind order problem) ≡ idle c
+      by-state true f = rw f nothing-run
       by-state false f = differs o BadState (rw f at e)
 
 pub zero-budget-does-nothing : ZeroBudgetDoesNothing
 unfolding ran
-zero-budget-does-nothing drum marks deck out s stop o e = by-fit (drumFits (length drum) marks (view drum marks)) refl
+zero-budget-does-nothing c o z e = by-fit (drumFits (length (c .drum)) (c .marks) (view (c .drum) (c .marks))) refl
   where
-    by-fit : (t : Bool) → drumFits (length drum) marks (view drum marks) ≡ t → ran drum marks deck out s 0 stop ≡ idle drum marks out s
-    by-fit true f = rw f (zero-from drum marks deck out s stop o (fit drum marks f) (deckOf deck) (rw f at e))
+    by-fit : (t : Bool) → drumFits (length (c .drum)) (c .marks) (view (c .drum) (c .marks)) ≡ t → ran c ≡ idle c
+    by-fit true f = rw f (zero-from c o z (fit (c .drum) (c .marks) f) (deckOf (c .deck)) (rw f at e))
     by-fit false f = differs o BadDrum (rw f at e)

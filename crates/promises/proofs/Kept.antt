@@ -1,22 +1,22 @@
 -- Why a cell that is unmarked in the end is as it was: a call lays cells over the drum that have only grown from its view, and a foreign
 -- cell laid over the drum leaves the number that is there. Assumes nothing.
-use Prim.Native.Nat.{ℕ, _-_}
+use Prim.Native.Nat.{ℕ}
 use mathlib.Core.Path.{_≡_, refl, sym, ap, _∙_}
 use mathlib.Core.List.{List, [], _∷_}
 use mathlib.Core.Bool.{Bool, true, false}
 use lib.ListN.{length, getD}
 use Rattle.rules.specs.Drum.{view, store, marksOf, overlay, drumFits}
-use Rattle.rules.specs.Cards.{firstSize}
-use Rattle.rules.specs.Decks.{cardsStored, deckOf}
+use Rattle.rules.specs.Decks.{dataFrom, cardsStored, deckOf}
 use Rattle.rules.specs.Running.{begun, inputs, runFrom, stateFits, ranAs, ranOn, ran}
 use Rattle.rules.specs.Loads.{loadedFrom, loaded}
 use Rattle.rules.specs.declared.Cell.{Cell}
 use Rattle.rules.specs.declared.Deck.{Deck}
 use Rattle.rules.specs.declared.Deck.the-variants.{Good, Faulty}
 use Rattle.rules.specs.declared.State.{State}
+use Rattle.rules.specs.declared.Switches.{Switches}
 use Rattle.rules.proofs.Views.{length-overlay, Fit, fit, marks-again, Grows, store-grows, overlay-kept}
 use Rattle.rules.proofs.Growth.{cards-grow, run-grows}
-use Rattle.promises.specs.Calls.{Call, load, run, startOf, Told, Called, called, afterLoad, afterRun, history}
+use Rattle.promises.specs.Calls.{Call, load, run, loadOf, runOf, startOf, Told, Called, called, afterLoad, afterRun, history}
 use Rattle.promises.specs.Foreign.{ForeignKept, LengthKept}
 
 -- one call from drum and marks: what it leaves unmarked was unmarked, and is kept; the drum is as long as it was
@@ -39,39 +39,39 @@ laid-over drum marks v t f g e =
     }
 
 module _ (drum marks : List ℕ) where
-  load-kept-from : (deck : List ℕ) (s : State) (t : Bool) (k : Deck) → Fit drum marks → Kept drum marks (afterLoad (loadedFrom drum marks deck s t k))
+  load-kept-from : (deck : List ℕ) (s : State) (t : Bool) (k : Deck) → Fit drum marks → Kept drum marks (afterLoad (loadedFrom (loadOf drum marks deck s t) k))
   unfolding loadedFrom
   load-kept-from deck s t (Faulty f) h = nothing-done drum marks _ refl
-  load-kept-from deck s t (Good behind) h =
-      let end : ℕ = behind - firstSize in
-      let v : List Cell = cardsStored end deck 0 end (view drum marks) in
-      laid-over drum marks (store v 0 0) _ h (λ i z. cards-grow end deck 0 end (view drum marks) i (store-grows v 0 0 i z)) refl
+  load-kept-from deck s t (Good behind order problem) h =
+      let v : List Cell = cardsStored behind (dataFrom deck 0) (view drum marks) in
+      laid-over drum marks (store v 0 0) _ h (λ i z. cards-grow behind (dataFrom deck 0) (view drum marks) i (store-grows v 0 0 i z)) refl
 
-  load-kept : (deck : List ℕ) (s : State) (t : Bool) → Kept drum marks (afterLoad (loaded drum marks deck s t))
+  load-kept : (deck : List ℕ) (s : State) (t : Bool) → Kept drum marks (afterLoad (loaded (loadOf drum marks deck s t)))
   unfolding loaded
   load-kept deck s t = by-fit (drumFits (length drum) marks (view drum marks)) refl
     where
-      by-fit : (b : Bool) → drumFits (length drum) marks (view drum marks) ≡ b → Kept drum marks (afterLoad (loaded drum marks deck s t))
+      by-fit : (b : Bool) → drumFits (length drum) marks (view drum marks) ≡ b → Kept drum marks (afterLoad (loaded (loadOf drum marks deck s t)))
       by-fit true e = rw e (load-kept-from deck s t (deckOf deck) (fit drum marks e))
       by-fit false e = rw e (nothing-done drum marks _ refl)
 
-  run-kept-from : (deck out : List ℕ) (s : State) (n : ℕ) (t : Bool) (k : Deck) → Fit drum marks → Kept drum marks (afterRun (ranOn drum marks deck out s n t k))
+  run-kept-from : (deck out : List ℕ) (s : State) (n : ℕ) (t : Switches) (k : Deck) → Fit drum marks → Kept drum marks (afterRun (ranOn (runOf drum marks deck out s n t) k))
   unfolding ranOn ranAs
   run-kept-from deck out s n t (Faulty f) h = nothing-done drum marks _ refl
-  run-kept-from deck out s n t (Good first) h = by-state (stateFits (view drum marks) deck first s n) refl
+  run-kept-from deck out s n t (Good behind order problem) h = by-state (stateFits (view drum marks) deck behind s n) refl
     where
-      by-state : (b : Bool) → stateFits (view drum marks) deck first s n ≡ b → Kept drum marks (afterRun (ranOn drum marks deck out s n t (Good first)))
+      by-state : (b : Bool) → stateFits (view drum marks) deck behind s n ≡ b
+          → Kept drum marks (afterRun (ranOn (runOf drum marks deck out s n t) (Good behind order problem)))
       by-state true e =
           rw e
-          (laid-over drum marks (runFrom (inputs deck out t) n (begun drum marks s) 0 .machine .cells) _ h
-          (run-grows (inputs deck out t) n (begun drum marks s) 0) refl)
+          (let c = runOf drum marks deck out s n t in
+          laid-over drum marks (runFrom (inputs c) n (begun c) 0 .machine .cells) _ h (run-grows (inputs c) n (begun c) 0) refl)
       by-state false e = rw e (nothing-done drum marks _ refl)
 
-  run-kept : (deck out : List ℕ) (s : State) (n : ℕ) (t : Bool) → Kept drum marks (afterRun (ran drum marks deck out s n t))
+  run-kept : (deck out : List ℕ) (s : State) (n : ℕ) (t : Switches) → Kept drum marks (afterRun (ran (runOf drum marks deck out s n t)))
   unfolding ran
   run-kept deck out s n t = by-fit (drumFits (length drum) marks (view drum marks)) refl
     where
-      by-fit : (b : Bool) → drumFits (length drum) marks (view drum marks) ≡ b → Kept drum marks (afterRun (ran drum marks deck out s n t))
+      by-fit : (b : Bool) → drumFits (length drum) marks (view drum marks) ≡ b → Kept drum marks (afterRun (ran (runOf drum marks deck out s n t)))
       by-fit true e = rw e (run-kept-from deck out s n t (deckOf deck) (fit drum marks e))
       by-fit false e = rw e (nothing-done drum marks _ refl)
 

@@ -11,10 +11,9 @@ use Rattle.rules.specs.Numbers.{triesAgain}
 use Rattle.rules.specs.Drum.{view, cellAt, drumFits}
 use Rattle.rules.specs.Decks.{deckOf}
 use Rattle.rules.specs.Machine.{Machine}
-use Rattle.rules.specs.Running.{asDone, traceSent, step, Left, notRun, ranAs, stateFits, ranOn, ran}
-use Rattle.rules.specs.Loads.{notLoaded, loadedFrom, loaded}
+use Rattle.rules.specs.Running.{asDone, traceSent, step, Left, RunCall, notRun, ranAs, stateFits, ranOn, ran}
+use Rattle.rules.specs.Loads.{LoadCall, notLoaded, loadedFrom, loaded}
 use Rattle.rules.specs.declared.Cell.the-variants.{Owned}
-use Rattle.rules.specs.declared.State.{State}
 use Rattle.rules.specs.declared.Outcome.{Outcome}
 use Rattle.rules.specs.declared.Deck.{Deck}
 use Rattle.rules.specs.declared.Deck.the-variants.{Good, Faulty}
@@ -82,41 +81,38 @@ same-load-bar a b e = cc
 same-run-bar : (a b : Bar) → NotRun a ≡ NotRun b → a ≡ b
 same-run-bar a b e = cc
 
-module _ (drum marks deck : List ℕ) (s : State) (traced : Bool) (b : Bar) where
-  load-barred : (k : Deck) → loadedFrom drum marks deck s traced k .loading ≡ NotLoaded b
-      → loadedFrom drum marks deck s traced k ≡ notLoaded drum marks s b
+module _ (c : LoadCall) (b : Bar) where
+  load-barred : (k : Deck) → loadedFrom c k .loading ≡ NotLoaded b → loadedFrom c k ≡ notLoaded c b
   unfolding loadedFrom
-  load-barred (Faulty f) e = ap (λ (x : Bar). notLoaded drum marks s x) (same-load-bar (BadDeck f) b e)
-  load-barred (Good behind) e = load-differs b e
+  load-barred (Faulty f) e = ap (notLoaded c) (same-load-bar (BadDeck f) b e)
+  load-barred (Good behind order problem) e = load-differs b e
 
 pub refused-load-changes-nothing : RefusedLoadChangesNothing
 unfolding loaded
-refused-load-changes-nothing drum marks deck s traced b e = by-fit (drumFits (length drum) marks (view drum marks)) refl
+refused-load-changes-nothing c b e = by-fit (drumFits (length (c .drum)) (c .marks) (view (c .drum) (c .marks))) refl
   where
-    by-fit : (t : Bool) → drumFits (length drum) marks (view drum marks) ≡ t → loaded drum marks deck s traced ≡ notLoaded drum marks s b
-    by-fit true f = rw f (load-barred drum marks deck s traced b (deckOf deck) (rw f at e))
-    by-fit false f = rw f (ap (λ (x : Bar). notLoaded drum marks s x) (same-load-bar BadDrum b (rw f at e)))
+    by-fit : (t : Bool) → drumFits (length (c .drum)) (c .marks) (view (c .drum) (c .marks)) ≡ t → loaded c ≡ notLoaded c b
+    by-fit true f = rw f (load-barred c b (deckOf (c .deck)) (rw f at e))
+    by-fit false f = rw f (ap (notLoaded c) (same-load-bar BadDrum b (rw f at e)))
 
 run-differs : {A : Type 0} (o : Outcome) (b : Bar) → Ran o ≡ NotRun b → A
 run-differs o b e = let z : _≡_ {A = ℕ} 0 1 = cc in let y : ⊥ = omega arith in absurd y
 
-module _ (drum marks deck out : List ℕ) (s : State) (budget : ℕ) (stop : Bool) (b : Bar) where
-  run-barred : (k : Deck) → ranOn drum marks deck out s budget stop k .ending ≡ NotRun b
-      → ranOn drum marks deck out s budget stop k ≡ notRun drum marks out s b
+module _ (c : RunCall) (b : Bar) where
+  run-barred : (k : Deck) → ranOn c k .ending ≡ NotRun b → ranOn c k ≡ notRun c b
   unfolding ranOn ranAs
-  run-barred (Faulty f) e = ap (λ (x : Bar). notRun drum marks out s x) (same-run-bar (BadDeck f) b e)
-  run-barred (Good first) e = by-state (stateFits (view drum marks) deck first s budget) refl
+  run-barred (Faulty f) e = ap (notRun c) (same-run-bar (BadDeck f) b e)
+  run-barred (Good behind order problem) e = by-state (stateFits (view (c .drum) (c .marks)) (c .deck) behind (c .state) (c .budget)) refl
     where
-      by-state : (t : Bool) → stateFits (view drum marks) deck first s budget ≡ t
-          → ranOn drum marks deck out s budget stop (Good first) ≡ notRun drum marks out s b
+      by-state : (t : Bool) → stateFits (view (c .drum) (c .marks)) (c .deck) behind (c .state) (c .budget) ≡ t
+          → ranOn c (Good behind order problem) ≡ notRun c b
       by-state true f = run-differs _ b (rw f at e)
-      by-state false f = rw f (ap (λ (x : Bar). notRun drum marks out s x) (same-run-bar BadState b (rw f at e)))
+      by-state false f = rw f (ap (notRun c) (same-run-bar BadState b (rw f at e)))
 
 pub refused-run-changes-nothing : RefusedRunChangesNothing
 unfolding ran
-refused-run-changes-nothing drum marks deck out s budget stop b e = by-fit (drumFits (length drum) marks (view drum marks)) refl
+refused-run-changes-nothing c b e = by-fit (drumFits (length (c .drum)) (c .marks) (view (c .drum) (c .marks))) refl
   where
-    by-fit : (t : Bool) → drumFits (length drum) marks (view drum marks) ≡ t
-        → ran drum marks deck out s budget stop ≡ notRun drum marks out s b
-    by-fit true f = rw f (run-barred drum marks deck out s budget stop b (deckOf deck) (rw f at e))
-    by-fit false f = rw f (ap (λ (x : Bar). notRun drum marks out s x) (same-run-bar BadDrum b (rw f at e)))
+    by-fit : (t : Bool) → drumFits (length (c .drum)) (c .marks) (view (c .drum) (c .marks)) ≡ t → ran c ≡ notRun c b
+    by-fit true f = rw f (run-barred c b (deckOf (c .deck)) (rw f at e))
+    by-fit false f = rw f (ap (notRun c) (same-run-bar BadDrum b (rw f at e)))

@@ -1,6 +1,6 @@
 -- Why unmarked cells are nobody's business: the definitions are over the view, drums that are alike have one view, and what a call
 -- leaves is laid over the drum with each foreign cell's own number. Assumes nothing.
-use Prim.Native.Nat.{ℕ, zero, suc, _-_}
+use Prim.Native.Nat.{ℕ, zero, suc}
 use mathlib.Core.Path.{_≡_, refl, sym, ap, subst, _∙_}
 use mathlib.Core.List.{List, [], _∷_}
 use mathlib.Core.Bool.{Bool, true, false}
@@ -8,7 +8,6 @@ use native.Mathlib.Nat.{suc-inj, suc-ne-zero}
 use native.Mathlib.Omega.{arith}
 use lib.ListN.{length, getD}
 use Rattle.rules.specs.Drum.{cellOf, view, markOf, marksOf, numberOver, overlay, drumFits}
-use Rattle.rules.specs.Cards.{firstSize}
 use Rattle.rules.specs.Decks.{deckOf}
 use Rattle.rules.specs.Running.{begun, inputs, runFrom, stateFits, ranAs, ranOn, ran}
 use Rattle.rules.specs.Loads.{cellsLoaded, loadedFrom, loaded}
@@ -17,8 +16,9 @@ use Rattle.rules.specs.declared.Cell.the-variants.{Foreign, Owned}
 use Rattle.rules.specs.declared.Deck.{Deck}
 use Rattle.rules.specs.declared.Deck.the-variants.{Good, Faulty}
 use Rattle.rules.specs.declared.State.{State}
+use Rattle.rules.specs.declared.Switches.{Switches}
 use Rattle.rules.proofs.Views.{length-overlay}
-use Rattle.promises.specs.Calls.{Call, load, run, startOf, Told, Called, called, afterLoad, afterRun, history}
+use Rattle.promises.specs.Calls.{Call, load, run, loadOf, runOf, startOf, Told, Called, called, afterLoad, afterRun, history}
 use Rattle.promises.specs.Foreign.{Alike, SameFor, ForeignUnseen}
 
 -- ---- drums that are alike have one view
@@ -73,46 +73,44 @@ module _ (drum₁ drum₂ marks : List ℕ) (h : Alike drum₁ drum₂ marks) wh
   fits-same = rw (h .long, one-view)
 
   load-from : (deck : List ℕ) (s : State) (t : Bool) (k : Deck)
-      → Matched (afterLoad (loadedFrom drum₁ marks deck s t k)) (afterLoad (loadedFrom drum₂ marks deck s t k))
+      → Matched (afterLoad (loadedFrom (loadOf drum₁ marks deck s t) k)) (afterLoad (loadedFrom (loadOf drum₂ marks deck s t) k))
   unfolding loadedFrom
   load-from deck s t (Faulty f) = unchanged _ refl
-  load-from deck s t (Good behind) =
+  load-from deck s t (Good behind order problem) =
       rw one-view
-      (record { told-same = refl; alike = overlay-alike drum₁ drum₂ (cellsLoaded (view drum₂ marks) deck (behind - firstSize)) (h .long) })
+      (record { told-same = refl; alike = overlay-alike drum₁ drum₂ (cellsLoaded (view drum₂ marks) deck behind) (h .long) })
 
   load-both : (deck : List ℕ) (s : State) (t : Bool)
-      → Matched (afterLoad (loaded drum₁ marks deck s t)) (afterLoad (loaded drum₂ marks deck s t))
+      → Matched (afterLoad (loaded (loadOf drum₁ marks deck s t))) (afterLoad (loaded (loadOf drum₂ marks deck s t)))
   unfolding loaded
   load-both deck s t = by-fit (drumFits (length drum₂) marks (view drum₂ marks)) refl
     where
       by-fit : (b : Bool) → drumFits (length drum₂) marks (view drum₂ marks) ≡ b
-          → Matched (afterLoad (loaded drum₁ marks deck s t)) (afterLoad (loaded drum₂ marks deck s t))
+          → Matched (afterLoad (loaded (loadOf drum₁ marks deck s t))) (afterLoad (loaded (loadOf drum₂ marks deck s t)))
       by-fit true e = rw (fits-same, e) (load-from deck s t (deckOf deck))
       by-fit false e = rw (fits-same, e) (unchanged _ refl)
 
-  run-from : (deck out : List ℕ) (s : State) (n : ℕ) (t : Bool) (k : Deck)
-      → Matched (afterRun (ranOn drum₁ marks deck out s n t k)) (afterRun (ranOn drum₂ marks deck out s n t k))
+  run-from : (deck out : List ℕ) (s : State) (n : ℕ) (t : Switches) (k : Deck)
+      → Matched (afterRun (ranOn (runOf drum₁ marks deck out s n t) k)) (afterRun (ranOn (runOf drum₂ marks deck out s n t) k))
   unfolding ranOn ranAs
   run-from deck out s n t (Faulty f) = unchanged _ refl
-  run-from deck out s n t (Good first) = by-state (stateFits (view drum₂ marks) deck first s n) refl
+  run-from deck out s n t (Good behind order problem) = by-state (stateFits (view drum₂ marks) deck behind s n) refl
     where
-      by-state : (b : Bool) → stateFits (view drum₂ marks) deck first s n ≡ b
-          → Matched (afterRun (ranOn drum₁ marks deck out s n t (Good first))) (afterRun (ranOn drum₂ marks deck out s n t (Good first)))
+      by-state : (b : Bool) → stateFits (view drum₂ marks) deck behind s n ≡ b
+          → Matched (afterRun (ranOn (runOf drum₁ marks deck out s n t) (Good behind order problem))) (afterRun (ranOn (runOf drum₂ marks deck out s n t) (Good behind order problem)))
       by-state true e =
           rw (one-view, e)
-          (record {
-            told-same = refl;
-            alike = overlay-alike drum₁ drum₂ (runFrom (inputs deck out t) n (begun drum₂ marks s) 0 .machine .cells) (h .long);
-          })
+          (let c = runOf drum₂ marks deck out s n t in
+          record { told-same = refl; alike = overlay-alike drum₁ drum₂ (runFrom (inputs c) n (begun c) 0 .machine .cells) (h .long) })
       by-state false e = rw (one-view, e) (unchanged _ refl)
 
-  run-both : (deck out : List ℕ) (s : State) (n : ℕ) (t : Bool)
-      → Matched (afterRun (ran drum₁ marks deck out s n t)) (afterRun (ran drum₂ marks deck out s n t))
+  run-both : (deck out : List ℕ) (s : State) (n : ℕ) (t : Switches)
+      → Matched (afterRun (ran (runOf drum₁ marks deck out s n t))) (afterRun (ran (runOf drum₂ marks deck out s n t)))
   unfolding ran
   run-both deck out s n t = by-fit (drumFits (length drum₂) marks (view drum₂ marks)) refl
     where
       by-fit : (b : Bool) → drumFits (length drum₂) marks (view drum₂ marks) ≡ b
-          → Matched (afterRun (ran drum₁ marks deck out s n t)) (afterRun (ran drum₂ marks deck out s n t))
+          → Matched (afterRun (ran (runOf drum₁ marks deck out s n t))) (afterRun (ran (runOf drum₂ marks deck out s n t)))
       by-fit true e = rw (fits-same, e) (run-from deck out s n t (deckOf deck))
       by-fit false e = rw (fits-same, e) (unchanged _ refl)
 

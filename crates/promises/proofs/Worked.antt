@@ -16,5 +16,5 @@ use Rattle.promises.specs.Session.{emptyDrum}
 use Rattle.promises.specs.Worked.{AllWorked, sessions}
 
 pub all-worked : AllWorked
-unfolding sessions bytes emptyDrum Words.isNumber Rounding.nearest Rounding.place Rounding.placed Rounding.settled Rounding.sum Rounding.sumOf Arithmetic.addOf Drum.view Drum.marksOf Drum.overlay Drum.marksFit Drum.wordsFit Drum.drumFits Cards.digits Cards.wordBytes Cards.wordsBytes Cards.dataCard Cards.stopCard Cards.numberIn Cards.wordIn Cards.badFrom Cards.dataOf Cards.firstOf Cards.cardOf Cards.cardBehind Decks.checkedBehind Decks.checkedFrom Decks.deckOf Decks.wordsStored Decks.cardsStored Decks.startsAt Codes.codes Codes.lookup Codes.codeIn Codes.ownedFrom Codes.checked Orders.wordsFrom Orders.cardsPunched Orders.punched Orders.performed Orders.gone Running.obeyed Running.traced Running.fetched Running.step Running.runFrom Running.over Running.ranAs Running.stateFits Running.ranOn Running.ran Loads.loadedFrom Loads.loaded Sheet.sheet Cards.traceCard Cards.width Cards.refusalLine Decks.judgedFrom
+unfolding sessions bytes emptyDrum Words.isNumber Rounding.nearest Rounding.place Rounding.placed Rounding.settled Rounding.sum Rounding.sumOf Arithmetic.addOf Drum.view Drum.marksOf Drum.overlay Drum.marksFit Drum.wordsFit Drum.drumFits Cards.digits Cards.wordBytes Cards.wordsBytes Cards.dataCard Cards.stopCard Cards.numberIn Cards.wordIn Cards.badFrom Cards.dataOf Cards.firstOf Cards.cardOf Decks.cutFrom Decks.checkedFrom Decks.deckOf Decks.dataIn Decks.wordsStored Decks.cardsStored Decks.beginsAt Codes.codes Codes.lookup Codes.codeIn Codes.ownedFrom Codes.checked Orders.wordsFrom Orders.cardsPunched Orders.punched Orders.performed Orders.gone Running.obeyed Running.traced Running.fetched Running.step Running.runFrom Running.over Running.ranAs Running.stateFits Running.ranOn Running.ran Loads.loadedFrom Loads.loaded Sheet.sheet Cards.traceCard Cards.width Cards.refusalLine Decks.judged
 all-worked = refl

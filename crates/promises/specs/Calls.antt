@@ -3,9 +3,10 @@
 use Prim.Native.Nat.{ℕ}
 use mathlib.Core.List.{List, [], _∷_}
 use mathlib.Core.Bool.{Bool}
-use Rattle.rules.specs.Running.{RunResult, ran}
-use Rattle.rules.specs.Loads.{LoadResult, loaded}
+use Rattle.rules.specs.Running.{RunCall, RunResult, ran}
+use Rattle.rules.specs.Loads.{LoadCall, LoadResult, loaded}
 use Rattle.rules.specs.declared.State.{State}
+use Rattle.rules.specs.declared.Switches.{Switches}
 use Rattle.rules.specs.declared.Ending.{Ending}
 use Rattle.rules.specs.declared.Loading.{Loading}
 
@@ -18,10 +19,18 @@ abbrev pub startOf : Start → State → State
 startOf handedOn s = s
 startOf (given t) s = t
 
--- what the caller brings: to a load the deck and the mode, to a run the deck, the output, the budget and the switch
+-- what the caller brings: to a load the deck and the mode, to a run the deck, the output, the budget and the switches
 pub data Call : Type 0 where
   load : Start → List ℕ → Bool → Call
-  run : Start → List ℕ → List ℕ → ℕ → Bool → Call
+  run : Start → List ℕ → List ℕ → ℕ → Switches → Call
+
+-- a call of each, by its drum, marks, deck and what else is lent and given
+abbrev pub loadOf : List ℕ → List ℕ → List ℕ → State → Bool → LoadCall
+loadOf drum marks deck s traced = record { drum = drum; marks = marks; deck = deck; state = s; traced = traced }
+
+abbrev pub runOf : List ℕ → List ℕ → List ℕ → List ℕ → State → ℕ → Switches → RunCall
+runOf drum marks deck out s budget switches =
+    record { drum = drum; marks = marks; out = out; deck = deck; state = s; budget = budget; switches = switches }
 
 pub data Answered : Type 0 where
   ofLoad : Loading → Answered
@@ -49,8 +58,8 @@ afterRun x =
     }
 
 abbrev pub called : Call → List ℕ → List ℕ → State → Called
-called (load st deck traced) drum marks s = afterLoad (loaded drum marks deck (startOf st s) traced)
-called (run st deck out budget stop) drum marks s = afterRun (ran drum marks deck out (startOf st s) budget stop)
+called (load st deck traced) drum marks s = afterLoad (loaded (loadOf drum marks deck (startOf st s) traced))
+called (run st deck out budget switches) drum marks s = afterRun (ran (runOf drum marks deck out (startOf st s) budget switches))
 
 -- the whole list of calls
 pub record History : Type 0 where

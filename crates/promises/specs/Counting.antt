@@ -2,12 +2,10 @@
 -- another. Assumes nothing.
 use Prim.Native.Nat.{ℕ, zero, suc, _+_, _<_}
 use mathlib.Core.Path.{_≡_}
-use mathlib.Core.List.{List}
-use mathlib.Core.Bool.{Bool, false}
+use mathlib.Core.Bool.{false}
 use Rattle.rules.specs.Numbers.{completed, mayGoOn}
 use Rattle.rules.specs.Machine.{Machine, Inputs}
-use Rattle.rules.specs.Running.{Course, step, runFrom, ran}
-use Rattle.rules.specs.declared.State.{State}
+use Rattle.rules.specs.Running.{Course, step, runFrom, RunCall, ran}
 use Rattle.rules.specs.declared.Outcome.{Outcome}
 use Rattle.rules.specs.declared.Outcome.the-variants.{GoesOn}
 use Rattle.rules.specs.declared.Ending.the-variants.{Ran}
@@ -32,6 +30,6 @@ CountIsSteps = (i : Inputs) (budget : ℕ) (m : Machine) → Comes i budget m (r
 -- With budget 0, a run that is not refused at its entry answers 02, and nothing is done.
 abbrev pub ZeroBudgetDoesNothing : Type 0
 ZeroBudgetDoesNothing =
-    (drum marks deck out : List ℕ) (s : State) (stop : Bool) (o : Outcome) → ran drum marks deck out s 0 stop .ending ≡ Ran o
-    → ran drum marks deck out s 0 stop
-    ≡ record { ending = Ran GoesOn; count = 0; written = 0; state = s; drum = drum; marks = marks; out = out }
+    (c : RunCall) (o : Outcome) → c .budget ≡ 0 → ran c .ending ≡ Ran o
+    → ran c
+    ≡ record { ending = Ran GoesOn; count = 0; written = 0; state = c .state; drum = c .drum; marks = c .marks; out = c .out }

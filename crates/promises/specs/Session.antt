@@ -10,6 +10,7 @@ use Rattle.rules.specs.Running.{RunResult, ran}
 use Rattle.rules.specs.Loads.{LoadResult, loaded}
 use Rattle.rules.specs.Sheet.{sheet}
 use Rattle.rules.specs.declared.State.{State}
+use Rattle.promises.specs.Calls.{loadOf, runOf}
 
 unfoldable pub deck : List ℕ
 deck = bytes "30001101+1200201202+0410202202+000020200000720002200+1000000050+2000000050007T101007"
@@ -22,10 +23,11 @@ noState =
     record { location = 0; counts = 0 ∷ 0 ∷ 0 ∷ []; counter = 0; problem = 0; reader = 0; mode = 0; tracing = 0 }
 
 unfoldable pub sessionLoad : LoadResult
-sessionLoad = loaded emptyDrum emptyDrum deck noState false
+sessionLoad = loaded (loadOf emptyDrum emptyDrum deck noState false)
 
 unfoldable pub sessionRun : RunResult
-sessionRun = ran (sessionLoad .drum) (sessionLoad .marks) deck (replicate 100 0) (sessionLoad .state) 999999 false
+sessionRun =
+    ran (runOf (sessionLoad .drum) (sessionLoad .marks) deck (replicate 100 0) (sessionLoad .state) 999999 (record { stop = false }))
 
 -- what is written, and that cell 202 was changed
 pub record SessionHolds : Type 0 where

@@ -51,7 +51,7 @@ seenIn x =
     }
 
 abbrev pub made : Row → Seen
-made r = seenIn (step (record { deck = []; room = 0; stop = false }) (machineOf r))
+made r = seenIn (step (record { deck = []; room = 0; switches = record { stop = false } }) (machineOf r))
 
 -- the result is in 000 and in 004, and the next order is in 002
 abbrev pub gives : ℕ → Seen

@@ -2,14 +2,12 @@
 -- Assumes nothing.
 use Prim.Native.Nat.{ℕ}
 use mathlib.Core.Path.{_≡_}
-use mathlib.Core.List.{List}
-use mathlib.Core.Bool.{Bool, true}
+use mathlib.Core.Bool.{true}
 use Rattle.rules.specs.Numbers.{triesAgain}
 use Rattle.rules.specs.Drum.{cellAt}
 use Rattle.rules.specs.Machine.{Machine, Inputs}
-use Rattle.rules.specs.Running.{asDone, step, Left, notRun, ran}
-use Rattle.rules.specs.Loads.{notLoaded, loaded}
-use Rattle.rules.specs.declared.State.{State}
+use Rattle.rules.specs.Running.{asDone, step, Left, RunCall, notRun, ran}
+use Rattle.rules.specs.Loads.{LoadCall, notLoaded, loaded}
 use Rattle.rules.specs.declared.Refusal.{Refusal}
 use Rattle.rules.specs.declared.Outcome.the-variants.{Undone}
 use Rattle.rules.specs.declared.Bar.{Bar}
@@ -40,12 +38,8 @@ SameOrderAgain = (i : Inputs) (m : Machine) → triesAgain (step i m .outcome) �
 
 -- A load that is refused changes nothing.
 abbrev pub RefusedLoadChangesNothing : Type 0
-RefusedLoadChangesNothing =
-    (drum marks deck : List ℕ) (s : State) (traced : Bool) (b : Bar) → loaded drum marks deck s traced .loading ≡ NotLoaded b
-    → loaded drum marks deck s traced ≡ notLoaded drum marks s b
+RefusedLoadChangesNothing = (c : LoadCall) (b : Bar) → loaded c .loading ≡ NotLoaded b → loaded c ≡ notLoaded c b
 
 -- A run that is refused at its entry changes nothing, counts nothing and writes nothing.
 abbrev pub RefusedRunChangesNothing : Type 0
-RefusedRunChangesNothing =
-    (drum marks deck out : List ℕ) (s : State) (budget : ℕ) (stop : Bool) (b : Bar)
-    → ran drum marks deck out s budget stop .ending ≡ NotRun b → ran drum marks deck out s budget stop ≡ notRun drum marks out s b
+RefusedRunChangesNothing = (c : RunCall) (b : Bar) → ran c .ending ≡ NotRun b → ran c ≡ notRun c b

@@ -12,6 +12,7 @@ use Rattle.rules.specs.Loads.{LoadResult, loaded}
 use Rattle.rules.specs.Sheet.{sheet, barLine}
 use Rattle.rules.specs.declared.Loading.{Loading}
 use Rattle.rules.specs.declared.Loading.the-variants.{Loaded, NotLoaded}
+use Rattle.promises.specs.Calls.{loadOf, runOf}
 use Rattle.promises.specs.Session.{emptyDrum, noState}
 
 -- a deck, whether the load is traced, whether the switch is on STOP, the budget, the room for cards, and what is written
@@ -28,11 +29,12 @@ worked d t s b r w = record { deck = d; traced = t; stop = s; budget = b; room =
 
 -- a refused load is told by its line; else the deck is run from the state that the load left
 abbrev pub sheetAfter : Worked → LoadResult → Loading → List ℕ
-sheetAfter w x Loaded = sheet (ran (x .drum) (x .marks) (bytes (w .deck)) (replicate (w .room) 0) (x .state) (w .budget) (w .stop))
+sheetAfter w x Loaded =
+    sheet (ran (runOf (x .drum) (x .marks) (bytes (w .deck)) (replicate (w .room) 0) (x .state) (w .budget) (record { stop = w .stop })))
 sheetAfter w x (NotLoaded b) = barLine b
 
 abbrev pub sheetOf : Worked → List ℕ
-sheetOf w = let x = loaded emptyDrum emptyDrum (bytes (w .deck)) noState (w .traced) in sheetAfter w x (x .loading)
+sheetOf w = let x = loaded (loadOf emptyDrum emptyDrum (bytes (w .deck)) noState (w .traced)) in sheetAfter w x (x .loading)
 
 unfoldable pub sessions : List Worked
 sessions =

@@ -7,9 +7,10 @@ use rules::Loading;
 use rules::Outcome;
 use rules::Reckoned;
 use rules::Refusal;
+use rules::Stop;
 ghost use mathlib.Core.Path.{_≡_};
 ghost use Rattle.rules.specs.Numbers.{refusalNumber, reckonedNumber, reckonedWord, deckNumber, deckPlace, barNumber, barPlace};
-ghost use Rattle.rules.specs.Numbers.{outcomeNumber, outcomeShown, endingNumber, endingPlace, endingShown, loadingNumber, loadingPlace};
+ghost use Rattle.rules.specs.Numbers.{stopNumber, outcomeNumber, outcomeShown, endingNumber, endingPlace, endingShown, loadingNumber, loadingPlace};
 
 // Why an order, or arithmetic on words, is refused.
 pub fn refusal_number(x: Refusal) -> u64
@@ -54,7 +55,11 @@ pub fn deck_number(x: DeckFault) -> u64
 {
     match x {
         DeckFault::TooLong => 11,
-        DeckFault::At(_, _) => 11,
+        DeckFault::At {
+            card: _,
+            fault: _,
+            byte: _,
+        } => 11,
         DeckFault::NoFirst(_) => 11,
     }
 }
@@ -64,7 +69,11 @@ pub fn deck_place(x: DeckFault) -> u64
 {
     match x {
         DeckFault::TooLong => 65536,
-        DeckFault::At(p, _) => p as u64,
+        DeckFault::At {
+            card,
+            fault: _,
+            byte: _,
+        } => card as u64,
         DeckFault::NoFirst(p) => p as u64,
     }
 }
@@ -90,13 +99,22 @@ pub fn bar_place(x: Bar) -> u64
     }
 }
 
+// The stops of orders.
+pub fn stop_number(x: Stop) -> u64
+    ensures { λ r. ⌜ r ≡ stopNumber x ⌝ }
+{
+    match x {
+        Stop::Unconditional => 0,
+        Stop::Conditional => 1,
+    }
+}
+
 // What a run came to, and the word it shows: +0 but for the two stops.
 pub fn outcome_number(x: Outcome) -> u64
     ensures { λ r. ⌜ r ≡ outcomeNumber x ⌝ }
 {
     match x {
-        Outcome::Stopped(_) => 0,
-        Outcome::Paused(_) => 1,
+        Outcome::Stops(k, _) => stop_number(k),
         Outcome::GoesOn => 2,
         Outcome::Undone(f) => refusal_number(f),
     }
@@ -106,8 +124,7 @@ pub fn outcome_shown(x: Outcome) -> u64
     ensures { λ r. ⌜ r ≡ outcomeShown x ⌝ }
 {
     match x {
-        Outcome::Stopped(w) => w,
-        Outcome::Paused(w) => w,
+        Outcome::Stops(_, w) => w,
         Outcome::GoesOn => 0,
         Outcome::Undone(_) => 0,
     }
