@@ -7,3 +7,7 @@ mod Boxes
 mod Sent
 mod Traces
 mod Punches
+mod Modes
+mod CardsRead
+mod StoredCards
+mod Loads

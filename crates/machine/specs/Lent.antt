@@ -8,11 +8,14 @@ use lib.Dec.{eqb}
 use lib.ListN.{length, getD, set}
 use Rattle.rules.specs.Words.{pick}
 use Rattle.rules.specs.Machine.{Machine, Inputs, Answer, countA, countB, countC}
-use Rattle.rules.specs.Running.{over, Course, RunResult}
+use Rattle.rules.specs.Running.{over, Course, RunCall, RunResult, begun, inputs, runFrom}
+use Rattle.rules.specs.States.{stateIn}
 use Rattle.rules.specs.Loads.{LoadResult}
+use Rattle.rules.specs.declared.State.{State}
 use Rattle.rules.specs.declared.Switches.{Switches}
+use Rattle.rules.specs.declared.Bar.{Bar}
 use Rattle.rules.specs.declared.Outcome.{Outcome}
-use Rattle.rules.specs.declared.Ending.the-variants.{Ran as RanTo}
+use Rattle.rules.specs.declared.Ending.the-variants.{Ran as RanTo, NotRun}
 use Rattle.drum.specs.Held.{Holds}
 use Rattle.machine.specs.declared.Ran.{Ran}
 use Rattle.machine.specs.declared.Loaded.{Loaded}
@@ -32,6 +35,11 @@ rowOf m =
     m .state .mode ∷
     m .state .tracing ∷
     length (m .sent) ∷ []
+
+-- those of a state before its first order
+abbrev pub rowFor : State → List ℕ
+rowFor s =
+    s .location ∷ countA s ∷ countB s ∷ countC s ∷ s .counter ∷ s .problem ∷ s .reader ∷ s .mode ∷ s .tracing ∷ 0 ∷ []
 
 -- ten numbers with which an order may be begun: its location is within the drum, and problem number and counts are as a run may have them
 pub record Fitting (row : List ℕ) : Type 0 where
@@ -101,6 +109,21 @@ pub record Ended (drum₀ out₀ drum marks out : List ℕ) (r : Ran) (x : Cours
   pub state-is : r .state ≡ x .machine .state
   pub memory : Holds drum₀ drum marks (x .machine .cells)
   pub output : Wrote out₀ out (x .machine .sent)
+
+-- what a run came to, by its last outcome and the ten numbers; and one that was refused at its entry
+abbrev pub endedAs : Outcome → ℕ → List ℕ → Ran
+endedAs o count row = record { ending = RanTo o; count = count; written = getD row 9 0; state = stateIn row }
+
+abbrev pub barredAs : Bar → State → Ran
+barredAs b s = record { ending = NotRun b; count = 0; written = 0; state = s }
+
+-- a call by what it is lent and given, and the whole run of it
+abbrev pub callOf : (drum marks out deck : List ℕ) → State → ℕ → Switches → RunCall
+callOf drum marks out deck s budget switches =
+    record { drum = drum; marks = marks; out = out; deck = deck; state = s; budget = budget; switches = switches }
+
+abbrev pub runOf : RunCall → Course
+runOf c = runFrom (inputs c) (c .budget) (begun c) 0
 
 -- ---- what the two public functions say: every part of the answer and of what was lent
 

@@ -1,3 +1,4 @@
 pub mod Lent
 pub mod Stated
 pub mod Fives
+pub mod Allowed
