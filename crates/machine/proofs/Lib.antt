@@ -8,6 +8,7 @@ mod Sent
 mod Traces
 mod Punches
 mod Modes
+mod Orders
 mod CardsRead
 mod StoredCards
 mod Loads
