@@ -9,6 +9,7 @@ mod Traces
 mod Punches
 mod Modes
 mod Orders
+mod Tellings
 mod CardsRead
 mod StoredCards
 mod Loads
