@@ -3,3 +3,7 @@ mod Stores
 mod Changes
 mod Loops
 mod Tracings
+mod StoredCards
+mod CardsRead
+mod Loads
+mod OneLoad

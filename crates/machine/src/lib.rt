@@ -1,11 +1,15 @@
 // Load and run on a lent drum, its marks, a deck and an output. Only these two are shown; each family of orders has a module of its own.
 mod changing;
+mod entering;
 mod going;
+mod loading;
 mod looping;
+mod reading;
 mod reckoning;
 mod rows;
 mod tracing;
 
+pub use loading::load;
 use rules::Ending;
 use rules::Loading;
 use rules::State;
