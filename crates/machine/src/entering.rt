@@ -2,7 +2,7 @@
 ghost use mathlib.Core.Path.{_≡_};
 ghost use Rattle.rules.specs.Words.{both};
 ghost use Rattle.rules.specs.Drum.{view};
-ghost use Rattle.rules.specs.Running.{boxFits, stateFits};
+ghost use Rattle.rules.specs.Running.{stateFits};
 use rules::State;
 
 // Two tests together.
@@ -15,15 +15,7 @@ fn and(a: bool, b: bool) -> bool
     false
 }
 
-// Each count of the loop box has three digits.
-fn box_fits(state: State) -> bool
-    ensures { λ r. ⌜ r ≡ boxFits state ⌝ }
-{
-    let counts = state.counts;
-    and(counts[0] <= 999, and(counts[1] <= 999, counts[2] <= 999))
-}
-
-// The place behind the deck's first-order card is `behind`.
+// The place behind the deck's first-order card is `behind`; each count of the loop box has three digits.
 pub fn state_fits(
     drum: &[u64],
     marks: &[u8],
@@ -36,13 +28,13 @@ pub fn state_fits(
 {
     let stands = card::may_stand(deck, behind, state.reader);
     let owned = drum::is_owned(drum, marks, 0);
-    let counts = box_fits(state);
+    let counts = state.counts;
     and(
         budget <= 999_999,
         and(
             state.location <= 1000,
             and(
-                counts,
+                and(counts[0] <= 999, and(counts[1] <= 999, counts[2] <= 999)),
                 and(
                     state.counter <= 9999,
                     and(

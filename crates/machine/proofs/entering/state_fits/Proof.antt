@@ -10,8 +10,14 @@ may-stand-requires c κs = search needs
 is-owned-requires : tie.Need-is-owned-requires
 is-owned-requires c κs = search needs
 
-box-fits-requires : tie.Need-box-fits-requires
-box-fits-requires c κs = search needs
+array-read-and : tie.Need-array-read-and
+array-read-and c = search needs
+
+array-read-and-2 : tie.Need-array-read-and-2
+array-read-and-2 c = search needs
+
+array-read-and-3 : tie.Need-array-read-and-3
+array-read-and-3 c = search needs
 
 and-requires : tie.Need-and-requires
 and-requires c κs = search needs
@@ -37,6 +43,12 @@ and-requires-7 c κs = search needs
 and-requires-8 : tie.Need-and-requires-8
 and-requires-8 c κs = search needs
 
+and-requires-9 : tie.Need-and-requires-9
+and-requires-9 c κs = search needs
+
+and-requires-10 : tie.Need-and-requires-10
+and-requires-10 c κs = search needs
+
 returns : tie.Need-returns
 unfolding stateFits
 returns c = cc
@@ -47,7 +59,9 @@ state-fits-spec =
     (tie.spec
     may-stand-requires
     is-owned-requires
-    box-fits-requires
+    array-read-and
+    array-read-and-2
+    array-read-and-3
     and-requires
     and-requires-2
     and-requires-3
@@ -56,4 +70,6 @@ state-fits-spec =
     and-requires-6
     and-requires-7
     and-requires-8
+    and-requires-9
+    and-requires-10
     returns)
