@@ -7,9 +7,12 @@ mod Boxes
 mod Sent
 mod Traces
 mod Punches
+mod StoredCards
+mod CardsRead
+mod Loads
+mod OneLoad
 mod Modes
 mod Orders
 mod Tellings
-mod CardsRead
-mod StoredCards
-mod Loads
+mod Steps
+mod Runs
