@@ -3,7 +3,7 @@
 ghost use mathlib.Core.Path.{_≡_};
 ghost use Prim.Native.Nat.{_+_, _*_, _≤_};
 ghost use lib.ListN.{length, take, drop};
-ghost use Rattle.rules.specs.Files.{lowBytes, rowBytes, numberOf, rowIn};
+ghost use Rattle.file.specs.Files.{lowBytes, rowBytes, numberOf, rowIn};
 ghost use Rattle.card.specs.Written.{splice};
 
 // A number at place a.

@@ -2,7 +2,7 @@
 ghost use mathlib.Core.Path.{_≡_};
 ghost use lib.ListN.{length};
 ghost use Prim.Native.Nat.{_≤_};
-ghost use Rattle.rules.specs.Files.{stateOf};
+ghost use Rattle.file.specs.Files.{stateOf};
 ghost use Rattle.file.specs.Reads.{notFound, FileRead};
 use crate::parts::fill_bytes;
 use crate::parts::fill_row;

@@ -4,7 +4,7 @@ ghost use mathlib.Core.Bool.{true};
 ghost use Prim.Native.Nat.{_+_, _≤_};
 ghost use lib.ListN.{length, set};
 ghost use Rattle.rules.specs.Words.{pick};
-ghost use Rattle.rules.specs.Texts.{isGap, takes, withDigit, numbersIn};
+ghost use Rattle.file.specs.Texts.{isGap, takes, withDigit, numbersIn};
 ghost use Rattle.file.specs.Reads.{Scanned, CellsRead};
 
 // Whether a byte is in a gap: a space or one of the bytes of a line end.

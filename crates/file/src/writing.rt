@@ -3,7 +3,7 @@ ghost use mathlib.Core.Path.{_≡_};
 ghost use mathlib.Core.List.{_++_};
 ghost use Prim.Native.Nat.{_≤_};
 ghost use lib.ListN.{length};
-ghost use Rattle.rules.specs.Files.{isWhole, rowBytes, fileOf};
+ghost use Rattle.file.specs.Files.{isWhole, rowBytes, fileOf};
 ghost use Rattle.rules.specs.Running.{over};
 ghost use Rattle.card.specs.Written.{Wrote};
 use crate::parts::put_bytes;

@@ -9,7 +9,7 @@ use lib.Dec.{leb, eqb}
 use lib.ListN.{length, getD}
 use Rattle.rules.specs.Words.{pick}
 use Rattle.rules.specs.Cards.{badFrom, cardOf}
-use Rattle.rules.specs.Listing.{isTrace, traceLines, isStop, stopLine, linesBy, sizeBy, linesOf, sizeOf}
+use Rattle.list.specs.Listing.{isTrace, traceLines, isStop, stopLine, linesBy, sizeBy, linesOf, sizeOf}
 use Rattle.rules.specs.declared.Card.{Card}
 use Rattle.rules.specs.declared.Card.the-variants.{Data, First}
 use Rattle.rules.proofs.Tests.{both-first, both-second}

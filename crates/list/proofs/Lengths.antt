@@ -10,7 +10,7 @@ use Rattle.rules.specs.Words.{pick, firstDigit, aIn}
 use Rattle.rules.specs.Bytes.{bytes}
 use Rattle.rules.specs.Cards.{digits, width, wordIn}
 use Rattle.rules.specs.Codes.{Row, codes, rowOf, codeIn}
-use Rattle.rules.specs.Listing.{aText, orderLine, cellLine, headLine, cellLines, dataLines, firstLine, shownLines, traceLines, stopLine, badLine}
+use Rattle.list.specs.Listing.{aText, orderLine, cellLine, headLine, cellLines, dataLines, firstLine, shownLines, traceLines, stopLine, badLine}
 use Rattle.rules.proofs.Digits.{length-digits}
 use Rattle.rules.proofs.Fields.{length-word}
 use Rattle.list.proofs.Joins.{length-field}

@@ -6,4 +6,5 @@ pub mod Readings
 pub mod Endings
 pub mod Answers
 pub mod Numerals
+pub mod Examples
 pub mod OneAnswer

@@ -10,7 +10,7 @@ use Rattle.rules.specs.Words.{pick, firstDigit, aIn, bIn, cIn}
 use Rattle.rules.specs.Bytes.{bytes}
 use Rattle.rules.specs.Cards.{digits, wordBytes, stopCard}
 use Rattle.rules.specs.Codes.{codes, rowOf, codeIn}
-use Rattle.rules.specs.Listing.{nameOf, aText, orderLine}
+use Rattle.list.specs.Listing.{nameOf, aText, orderLine}
 use Rattle.list.specs.Listed.{fieldsIn}
 
 -- the bytes that lines take theirs from

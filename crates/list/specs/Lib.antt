@@ -1,2 +1,4 @@
+pub mod Listing
+pub mod Examples
 pub mod Rows
 pub mod Listed

@@ -7,7 +7,7 @@ use Rattle.rules.specs.Bytes.{bytes, lineEnd}
 use Rattle.rules.specs.Cards.{wordIn, wordPlace}
 use Rattle.rules.specs.Codes.{names}
 use Rattle.rules.specs.Words.{pick}
-use Rattle.rules.specs.Listing.{fieldIn, isTrace, traceLines, isStop, stopLine}
+use Rattle.list.specs.Listing.{fieldIn, isTrace, traceLines, isStop, stopLine}
 use Rattle.card.specs.Written.{WroteLine}
 use Rattle.list.specs.declared.listing.Lines.{Lines}
 

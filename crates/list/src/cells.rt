@@ -7,7 +7,7 @@ ghost use lib.ListN.{length};
 ghost use Rattle.rules.specs.Words.{pick, firstDigit};
 ghost use Rattle.rules.specs.Bytes.{bytes};
 ghost use Rattle.rules.specs.Cards.{stopCard};
-ghost use Rattle.rules.specs.Listing.{orderLine, cellLine, cellShown};
+ghost use Rattle.list.specs.Listing.{orderLine, cellLine, cellShown};
 ghost use Rattle.card.specs.Written.{splice, WroteLine};
 ghost use Rattle.list.specs.Listed.{fieldsIn};
 use crate::codes::put_name;

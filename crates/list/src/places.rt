@@ -4,7 +4,7 @@ ghost use mathlib.Core.List.{[], _∷_, _++_};
 ghost use Prim.Native.Nat.{_+_, _≤_};
 ghost use lib.ListN.{length, take, drop};
 ghost use Rattle.rules.specs.Bytes.{bytes};
-ghost use Rattle.rules.specs.Listing.{badLine};
+ghost use Rattle.list.specs.Listing.{badLine};
 ghost use Rattle.card.specs.Written.{splice, WroteLine};
 use crate::parts::copy;
 use crate::parts::put;

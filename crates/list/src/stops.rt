@@ -2,7 +2,7 @@
 ghost use mathlib.Core.Path.{_≡_};
 ghost use Prim.Native.Nat.{_≤_};
 ghost use lib.ListN.{length};
-ghost use Rattle.rules.specs.Listing.{stopLine};
+ghost use Rattle.list.specs.Listing.{stopLine};
 ghost use Rattle.card.specs.Written.{splice, WroteLine};
 use crate::parts::copy;
 use crate::parts::put;

@@ -15,6 +15,4 @@ pub mod Dues
 pub mod CardTrips
 pub mod Results
 pub mod States
-pub mod Files
-pub mod Texts
 pub mod Agreed

@@ -3,7 +3,7 @@ use mathlib.Core.Path.{refl, ap, _∙_}
 use Prim.Native.Nat.{ℕ}
 use borrow.Author.Needs.{needs}
 use lib.ListN.{take, drop}
-use Rattle.rules.specs.Files.{rowIn, drumIn, marksIn}
+use Rattle.file.specs.Files.{rowIn, drumIn, marksIn}
 use Rattle.file.proofs.Wholes.{whole-is, no-drum, no-marks, file-is, not-whole, no-bytes, not-read, was-read}
 use Rattle.file.proofs.reading.read_file.Statement.{statement}
 use Rattle.file.proofs.reading.read_file.Tie as tie

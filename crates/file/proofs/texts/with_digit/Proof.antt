@@ -7,7 +7,7 @@ use borrow.Author.Needs.{needs}
 use borrow.Author.Tests.{ltb-true, leb-true}
 use lib.Dec.{leb}
 use Rattle.rules.specs.Cards.{isDigit}
-use Rattle.rules.specs.Texts.{takes, withDigit}
+use Rattle.file.specs.Texts.{takes, withDigit}
 use Rattle.rules.proofs.Tests.{both-first, both-second}
 use Rattle.file.proofs.texts.with_digit.Statement.{statement}
 use Rattle.file.proofs.texts.with_digit.Tie as tie

@@ -5,9 +5,9 @@ use Prim.Native.Nat.{ℕ}
 use native.Mathlib.Omega.{arith}
 use borrow.Author.Needs.{needs}
 use lib.ListN.{length, length-append}
-use Rattle.rules.specs.Files.{rowBytes}
+use Rattle.file.specs.Files.{rowBytes}
 use Rattle.rules.specs.Running.{over}
-use Rattle.rules.proofs.Files.{length-row}
+use Rattle.file.proofs.Files.{length-row}
 use Rattle.card.proofs.Splices.{splice-start, grown}
 use Rattle.file.proofs.writing.put_file.Statement.{statement}
 use Rattle.file.proofs.writing.put_file.Tie as tie

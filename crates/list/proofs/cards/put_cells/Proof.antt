@@ -6,7 +6,7 @@ use Prim.Native.Nat.{ℕ, _+_, _*_, _-_, _≤_}
 use native.Mathlib.Numerals.{add-one}
 use native.Mathlib.Omega.{arith}
 use lib.ListN.{length}
-use Rattle.rules.specs.Listing.{cellLine, cellLines}
+use Rattle.list.specs.Listing.{cellLine, cellLines}
 use Rattle.card.specs.Written.{splice}
 use Rattle.card.proofs.Splices.{splice-more, splice-none}
 use Rattle.list.proofs.Lengths.{length-cell, length-cells}

@@ -3,7 +3,7 @@ use mathlib.Core.Path.{refl}
 use Prim.Native.Nat.{_+_, _*_}
 use native.Mathlib.Omega.{arith}
 use Rattle.rules.specs.Bytes.{bytes}
-use Rattle.rules.specs.Listing.{headLine, cellLines, dataLines}
+use Rattle.list.specs.Listing.{headLine, cellLines, dataLines}
 use Rattle.card.proofs.Writes.{no-line}
 use Rattle.list.proofs.Joins.{put-begin, put-more}
 use Rattle.list.proofs.Endings.{all}

@@ -7,7 +7,7 @@ use lib.ListN.{take, drop}
 use Rattle.rules.specs.Bytes.{bytes}
 use Rattle.card.specs.Written.{splice}
 use Rattle.rules.specs.Cards.{digits}
-use Rattle.rules.specs.Listing.{orderLine, cellLine}
+use Rattle.list.specs.Listing.{orderLine, cellLine}
 use Rattle.list.proofs.Joins.{put-begin, put-more}
 use Rattle.list.proofs.Lengths.{length-order}
 use Rattle.list.proofs.Readings.{address-shown}

@@ -4,7 +4,7 @@ use mathlib.Core.Path.{ap, _∙_}
 use Prim.Native.Nat.{ℕ, _+_}
 use native.Mathlib.Omega.{arith}
 use Rattle.rules.specs.Bytes.{bytes}
-use Rattle.rules.specs.Listing.{badLine}
+use Rattle.list.specs.Listing.{badLine}
 use Rattle.card.specs.Written.{splice}
 use Rattle.card.proofs.Writes.{no-line}
 use Rattle.list.proofs.Endings.{all}

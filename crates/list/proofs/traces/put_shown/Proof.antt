@@ -4,7 +4,7 @@ use mathlib.Core.List.{[], _∷_, _++_}
 use native.Mathlib.Omega.{arith}
 use lib.ListN.{take, drop}
 use Rattle.rules.specs.Bytes.{bytes}
-use Rattle.rules.specs.Listing.{shownLines}
+use Rattle.list.specs.Listing.{shownLines}
 use Rattle.list.proofs.Joins.{put-begin, put-more, put-piece, length-piece}
 use borrow.Author.Needs.{needs}
 use Rattle.list.proofs.traces.put_shown.Statement.{statement}

@@ -5,7 +5,7 @@ use Prim.Native.Nat.{ℕ, _≤_}
 use native.Mathlib.Omega.{arith}
 use Rattle.rules.specs.Bytes.{bytes}
 use Rattle.card.specs.Written.{splice}
-use Rattle.rules.specs.Listing.{headLine, orderLine, shownLines, traceLines}
+use Rattle.list.specs.Listing.{headLine, orderLine, shownLines, traceLines}
 use Rattle.list.proofs.Joins.{put-begin, put-more}
 use Rattle.list.proofs.Lengths.{length-head, length-order, length-shown}
 use borrow.Author.Needs.{needs}

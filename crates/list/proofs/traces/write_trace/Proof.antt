@@ -1,6 +1,6 @@
 -- `list::traces::write_trace` meets its contract: there is no room, or all is written. Assumes nothing.
 use native.Mathlib.Omega.{arith}
-use Rattle.rules.specs.Listing.{traceLines}
+use Rattle.list.specs.Listing.{traceLines}
 use Rattle.card.proofs.Writes.{no-line}
 use Rattle.list.proofs.Endings.{all}
 use Rattle.list.proofs.Lengths.{length-trace}

@@ -5,8 +5,7 @@ use Prim.Native.String.{String}
 use mathlib.Core.Path.{_≡_}
 use mathlib.Core.List.{List, [], _∷_, _++_}
 use Rattle.rules.specs.Bytes.{bytes, lineEnd}
-use Rattle.rules.specs.Listing.{listing}
-use Rattle.promises.specs.Session.{deck}
+use Rattle.list.specs.Listing.{listing}
 
 -- texts, each with a line end
 abbrev pub lines : List String → List ℕ
@@ -17,7 +16,7 @@ abbrev pub Lists : String → List String → Type 0
 Lists cards ls = listing (bytes cards) ≡ lines ls
 
 pub record ListingsHold : Type 0 where
-  pub session : listing deck ≡ lines (
+  pub session : Lists "30001101+1200201202+0410202202+000020200000720002200+1000000050+2000000050007T101007" (
       "card  0001  at 101  problem 007" ∷
       "  101  +1200201202  ADD         200 201 202" ∷
       "  102  +0410202202  PCH             202 202" ∷

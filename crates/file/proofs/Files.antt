@@ -8,10 +8,10 @@ use native.Mathlib.Numerals.{add-one}
 use native.Mathlib.Omega.{arith}
 use lib.ListN.{length, getD, take, drop, length-append, length-drop, take-append-drop}
 use lib.Seq.{take-suc, drop-cons, take-at, drop-at, drop-drop, take-add, take-all, length-take-le, getD-take, getD-drop}
-use Rattle.rules.specs.Files.{lowBytes, rowBytes, fileOf, numberOf, rowIn, drumIn, marksIn, stateOf, AllBelow}
+use Rattle.file.specs.Files.{lowBytes, rowBytes, fileOf, numberOf, rowIn, drumIn, marksIn, stateOf, AllBelow}
 use Rattle.rules.specs.States.{stateIn, numbersOf}
 use Rattle.rules.specs.declared.State.{State}
 use Rattle.rules.proofs.States.{kept, state-kept}
 
 -- ---- lengths
 

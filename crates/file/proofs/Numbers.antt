@@ -8,8 +8,8 @@ use mathlib.Core.Option.{none, some}
 use native.Mathlib.Omega.{arith}
 use lib.ListN.{length, length-append}
 use borrow.Author.Tests.{ne-eqb}
 use Rattle.rules.specs.Words.{pick}
-use Rattle.rules.specs.Texts.{isGap, withDigit, takes, ended, numbersFrom, numbersIn, isCount}
+use Rattle.file.specs.Texts.{isGap, withDigit, takes, ended, numbersFrom, numbersIn, isCount}
 
 -- ---- one byte
 
