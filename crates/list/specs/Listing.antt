@@ -8,7 +8,7 @@ use lib.ListN.{length, getD, take, drop}
 use Rattle.rules.specs.Words.{pick, both, isWord, firstDigit, aIn, bIn, cIn}
 use Rattle.rules.specs.Bytes.{bytes, lineEnd}
 use Rattle.rules.specs.Cards.{traceKind, stopKind, digits, wordBytes, width, isSign, wordIn, wordPlace, dataSize, firstSize, badFrom, cardOf}
-use Rattle.rules.specs.Codes.{codes, names, rowOf, codeIn}
+use Rattle.rules.specs.Codes.{codes, nameIn, codeIn}
 use Rattle.rules.specs.declared.Card.{Card}
 use Rattle.rules.specs.declared.Card.the-variants.{Data, First, Bad, End}
 
@@ -16,7 +16,7 @@ use Rattle.rules.specs.declared.Card.the-variants.{Data, First, Bad, End}
 
 -- the name of a word's code
 abbrev pub nameOf : ℕ → List ℕ
-nameOf w = getD names (rowOf (codeIn w) codes) []
+nameOf w = nameIn (codeIn w) codes
 
 -- the A-address; where O1 is 0 there is none
 abbrev pub aText : ℕ → List ℕ

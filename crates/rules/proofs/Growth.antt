@@ -11,7 +11,7 @@ use Rattle.rules.specs.Drum.{cellAt, wordAt, store}
 use Rattle.rules.specs.Cards.{wordIn, wordPlace}
 use Rattle.rules.specs.Decks.{cardAt, wordsStored, cardsStored, judgedFrom}
 use Rattle.rules.specs.Codes.{codes, lookup, checked}
-use Rattle.rules.specs.Machine.{Machine, Inputs, Answer, counting, clearBox, isTracing, withState, goingTo, onward, done, undone}
+use Rattle.rules.specs.Machine.{Machine, Inputs, Answer, counting, clearBox, isTraced, isTracing, withState, goingTo, onward, done, undone}
 use Rattle.rules.specs.Orders.{reckonedBy, reckoned, condStopped, gone, largest, raised, five, cardPunched, cardsPunched, punchSize, punched, read, erased, retraced, performed}
 use Rattle.rules.specs.Running.{allowed, obeyedAs, codeDone, obeyed, asDone, orderFits, traceSent, traceSize, traced, fetched, step, runFrom}
 use Rattle.rules.specs.declared.Cell.{Cell}
@@ -146,7 +146,7 @@ as-grows i m a b c (As o k) = allowed-grows i m o a b c (checked k (m .cells) a 
 obeyed-grows : (i : Inputs) (m : Machine) (w : ℕ) → Grows (m .cells) (obeyed i m w .machine .cells)
 unfolding obeyed
 obeyed-grows i m w =
-    as-grows i m (aIn w) (bIn w) (cIn w) (lookup (codeDone (m .state) w) codes)
+    as-grows i m (aIn w) (bIn w) (cIn w) (lookup (codeDone (isTraced (m .state)) w) codes)
 
 traced-grows : (i : Inputs) (m : Machine) (w w′ : ℕ) → Grows (m .cells) (traced i m w w′ .machine .cells)
 unfolding traced

@@ -88,7 +88,7 @@ as-stays i m a b c (As o k) = allowed-stays i m o a b c (checked k (m .cells) a 
 pub obeyed-stays : (i : Inputs) (m : Machine) (w : ℕ) → Stays m (obeyed i m w)
 unfolding obeyed
 obeyed-stays i m w =
-    as-stays i m (aIn w) (bIn w) (cIn w) (lookup (codeDone (m .state) w) codes)
+    as-stays i m (aIn w) (bIn w) (cIn w) (lookup (codeDone (isTraced (m .state)) w) codes)
 
 abbrev Leaves : Machine → Answer → Type 0
 Leaves m x = triesAgain (x .outcome) ≡ true → Left m (x .machine)

@@ -1,6 +1,7 @@
 -- The built codes, in the order of the newsletter's list, each with its operation, operand class and name. A code that is not here is not
 -- built. Checks 20, 21 and 24 go by the class. Assumes nothing.
 use Prim.Native.Nat.{ℕ, zero, suc, _+_, _-_, _*_}
+use Prim.Native.String.{String}
 use mathlib.Core.List.{List, [], _∷_}
 use mathlib.Core.Bool.{Bool, true, false}
 use lib.Dec.{eqb, leb, ltb}
@@ -24,14 +25,16 @@ use Rattle.rules.specs.declared.Checked.the-variants.{Passes, Refuses}
 use Rattle.rules.specs.declared.Built.{Built}
 use Rattle.rules.specs.declared.Built.the-variants.{As, No}
 
--- A row of the table: a code, what it does, what its addresses are. Where O1 is 0 the code is O2; else O1 stands in the thousands.
+-- A row of the table: a code, what it does, what its addresses are, and the newsletter's alphabetic code, ten letters wide. Where O1 is 0
+-- the code is O2; else O1 stands in the thousands.
 pub record Row : Type 0 where
   pub code : ℕ
   pub operation : Operation
   pub class : Class
+  pub name : List ℕ
 
-abbrev pub row : ℕ → Operation → Class → Row
-row k o c = record { code = k; operation = o; class = c }
+abbrev pub row : ℕ → Operation → Class → String → Row
+row k o c n = record { code = k; operation = o; class = c; name = bytes n }
 
 abbrev pub pchCode : ℕ
 pchCode = 410
@@ -41,93 +44,52 @@ noopCode = 454
 
 unfoldable pub codes : List Row
 codes =
-    row 1000 (Reckon Add) TwoNumbers ∷
-    row 2000 (Reckon Sub) TwoNumbers ∷
-    row 3000 (Reckon Mpy) TwoNumbers ∷
-    row 4000 (Reckon Div) TwoNumbers ∷
-    row 5000 (Reckon Ngmpy) TwoNumbers ∷
-    row 9000 Move OneWord ∷
-    row 000 (Go UncStop) Free ∷
-    row 200 (Go CondStop) Free ∷
-    row 201 (Go TrSgn) Free ∷
-    row 202 (Go TrExp) Free ∷
-    row 203 (Go Tr) Free ∷
-    row 204 (Go TrSubr) Linked ∷
-    row 100 (Loop true false false) Free ∷
-    row 010 (Loop false true false) Free ∷
-    row 001 (Loop false false true) Free ∷
-    row 110 (Loop true true false) Free ∷
-    row 101 (Loop true false true) Free ∷
-    row 011 (Loop false true true) Free ∷
-    row 111 (Loop true true true) Free ∷
-    row 500 (Change SetTo OfA) Changed ∷
-    row 050 (Change SetTo OfB) Changed ∷
-    row 005 (Change SetTo OfC) Changed ∷
-    row 600 (Change AddTo OfA) Changed ∷
-    row 060 (Change AddTo OfB) Changed ∷
-    row 006 (Change AddTo OfC) Changed ∷
-    row 700 (Change SubFrom OfA) Changed ∷
-    row 070 (Change SubFrom OfB) Changed ∷
-    row 007 (Change SubFrom OfC) Changed ∷
-    row 300 (Reckon Sqrt) OneNumber ∷
-    row 350 (Reckon Abs) OneNumber ∷
-    row 400 Read BlockIn ∷
-    row 410 Pch BlockOut ∷
-    row 450 (Trace StartTr) Free ∷
-    row 451 (Trace StopTr) Free ∷
-    row 452 (Trace StTrEras) Free ∷
-    row 454 (Go Noop) Free ∷ []
-
--- The newsletter's alphabetic code of each row, ten letters wide; behind them a dash, for a code that is not built.
-unfoldable pub names : List (List ℕ)
-names =
-    bytes "ADD       " ∷
-    bytes "SUB       " ∷
-    bytes "MPY       " ∷
-    bytes "DIV       " ∷
-    bytes "NGMPY     " ∷
-    bytes "MOVE      " ∷
-    bytes "UNC STOP  " ∷
-    bytes "COND STOP " ∷
-    bytes "TR SGN    " ∷
-    bytes "TR EXP    " ∷
-    bytes "TR        " ∷
-    bytes "TR SUBR   " ∷
-    bytes "LOOP A    " ∷
-    bytes "LOOP B    " ∷
-    bytes "LOOP C    " ∷
-    bytes "LOOP AB   " ∷
-    bytes "LOOP AC   " ∷
-    bytes "LOOP BC   " ∷
-    bytes "LOOP ABC  " ∷
-    bytes "SET A     " ∷
-    bytes "SET B     " ∷
-    bytes "SET C     " ∷
-    bytes "ADD A     " ∷
-    bytes "ADD B     " ∷
-    bytes "ADD C     " ∷
-    bytes "SUB A     " ∷
-    bytes "SUB B     " ∷
-    bytes "SUB C     " ∷
-    bytes "SQRT      " ∷
-    bytes "ABS       " ∷
-    bytes "READ      " ∷
-    bytes "PCH       " ∷
-    bytes "START TR  " ∷
-    bytes "STOP TR   " ∷
-    bytes "ST TR ERAS" ∷
-    bytes "NOOP      " ∷
-    bytes "-         " ∷ []
-
--- the row of a code, counted from 0; behind the last where no row has it
-unfoldable pub rowOf : ℕ → List Row → ℕ
-rowOf k [] = 0
-rowOf k (r ∷ rs) = pick (eqb k (r .code)) 0 (suc (rowOf k rs))
+    row 1000 (Reckon Add) TwoNumbers "ADD       " ∷
+    row 2000 (Reckon Sub) TwoNumbers "SUB       " ∷
+    row 3000 (Reckon Mpy) TwoNumbers "MPY       " ∷
+    row 4000 (Reckon Div) TwoNumbers "DIV       " ∷
+    row 5000 (Reckon Ngmpy) TwoNumbers "NGMPY     " ∷
+    row 9000 Move OneWord "MOVE      " ∷
+    row 000 (Go UncStop) Free "UNC STOP  " ∷
+    row 200 (Go CondStop) Free "COND STOP " ∷
+    row 201 (Go TrSgn) Free "TR SGN    " ∷
+    row 202 (Go TrExp) Free "TR EXP    " ∷
+    row 203 (Go Tr) Free "TR        " ∷
+    row 204 (Go TrSubr) Linked "TR SUBR   " ∷
+    row 100 (Loop true false false) Free "LOOP A    " ∷
+    row 010 (Loop false true false) Free "LOOP B    " ∷
+    row 001 (Loop false false true) Free "LOOP C    " ∷
+    row 110 (Loop true true false) Free "LOOP AB   " ∷
+    row 101 (Loop true false true) Free "LOOP AC   " ∷
+    row 011 (Loop false true true) Free "LOOP BC   " ∷
+    row 111 (Loop true true true) Free "LOOP ABC  " ∷
+    row 500 (Change SetTo OfA) Changed "SET A     " ∷
+    row 050 (Change SetTo OfB) Changed "SET B     " ∷
+    row 005 (Change SetTo OfC) Changed "SET C     " ∷
+    row 600 (Change AddTo OfA) Changed "ADD A     " ∷
+    row 060 (Change AddTo OfB) Changed "ADD B     " ∷
+    row 006 (Change AddTo OfC) Changed "ADD C     " ∷
+    row 700 (Change SubFrom OfA) Changed "SUB A     " ∷
+    row 070 (Change SubFrom OfB) Changed "SUB B     " ∷
+    row 007 (Change SubFrom OfC) Changed "SUB C     " ∷
+    row 300 (Reckon Sqrt) OneNumber "SQRT      " ∷
+    row 350 (Reckon Abs) OneNumber "ABS       " ∷
+    row 400 Read BlockIn "READ      " ∷
+    row 410 Pch BlockOut "PCH       " ∷
+    row 450 (Trace StartTr) Free "START TR  " ∷
+    row 451 (Trace StopTr) Free "STOP TR   " ∷
+    row 452 (Trace StTrEras) Free "ST TR ERAS" ∷
+    row 454 (Go Noop) Free "NOOP      " ∷ []
 
 -- the first row with that code
 unfoldable pub lookup : ℕ → List Row → Built
 lookup k [] = No
 lookup k (r ∷ rs) = pick (eqb k (r .code)) (As (r .operation) (r .class)) (lookup k rs)
+
+-- its name; a code that is not built has a dash
+unfoldable pub nameIn : ℕ → List Row → List ℕ
+nameIn k [] = bytes "-         "
+nameIn k (r ∷ rs) = pick (eqb k (r .code)) (r .name) (nameIn k rs)
 
 -- The code of an order. MOVE with A not 000 is a code of its own, 9001, which is not built.
 abbrev pub isBlockMove : ℕ → Bool

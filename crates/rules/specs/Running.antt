@@ -64,12 +64,12 @@ obeyedAs i m a b c No = undone NotBuilt m
 obeyedAs i m a b c (As o k) = allowed i m o a b c (checked k (m .cells) a b c)
 
 -- in traced mode PCH is NOOP, checks and all
-abbrev pub codeDone : State → ℕ → ℕ
-codeDone s w = pick (both (isTraced s) (eqb (codeIn w) pchCode)) noopCode (codeIn w)
+abbrev pub codeDone : Bool → ℕ → ℕ
+codeDone t w = pick (both t (eqb (codeIn w) pchCode)) noopCode (codeIn w)
 
 unfoldable pub obeyed : Inputs → Machine → ℕ → Answer
 obeyed i m w =
-    obeyedAs i m (aIn w) (bIn w) (cIn w) (lookup (codeDone (m .state) w) codes)
+    obeyedAs i m (aIn w) (bIn w) (cIn w) (lookup (codeDone (isTraced (m .state)) w) codes)
 
 -- ---- the trace card: order as stored, as done, the loop box, A's word, B's word, cell 000's
 
