@@ -1,6 +1,5 @@
 pub mod Files
 pub mod Numbers
-pub mod Copies
 pub mod Scans
 pub mod Wholes
 pub mod Trips

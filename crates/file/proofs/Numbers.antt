@@ -1,17 +1,47 @@
 -- The text of cells: what one byte does, and that numbers which have ended stay, so that too many of them are too many at the end.
 -- Assumes nothing.
-use Prim.Native.Nat.{ℕ, _≤_, _<_}
+use Prim.Native.Nat.{ℕ, _^_, _≤_, _<_}
 use mathlib.Core.Path.{_≡_, refl, ap, _∙_}
 use mathlib.Core.List.{List, [], _∷_}
 use mathlib.Core.Bool.{Bool, true, false}
 use mathlib.Core.Option.{none, some}
 use native.Mathlib.Omega.{arith}
+use lib.Dec.{ltb}
 use lib.ListN.{length, length-append}
 use borrow.Author.Tests.{ne-eqb}
-use Rattle.rules.specs.Words.{pick}
-use Rattle.file.specs.Texts.{isGap, withDigit, takes, ended, numbersFrom, numbersIn, isCount}
+use Rattle.rules.specs.Words.{pick, both}
+use Rattle.rules.specs.Cards.{isDigit}
+use Rattle.bytes.specs.Longer.{withDigit, longer}
+use Rattle.bytes.specs.declared.reads.Longer.{Longer}
+use Rattle.bytes.specs.declared.reads.Longer.the-variants.{Number, TooLarge, NoDigit}
+use Rattle.file.specs.Texts.{isGap, takes, ended, numbersFrom, numbersIn, isCount}
 
 -- ---- one byte
+
+-- what a number with one more digit is says whether the number takes it
+abbrev pub took : Longer → Bool
+took (Number y) = true
+took TooLarge = false
+took NoDigit = false
+
+module _ (x b : ℕ) where
+  pub takes-is : takes x b ≡ took (longer x b)
+  unfolding longer
+  takes-is = by-tests (isDigit b) (ltb (withDigit x b) (2 ^ 64))
+    where
+      by-tests : (d t : Bool) → both d t ≡ took (pick d (pick t (Number (withDigit x b)) TooLarge) NoDigit)
+      by-tests true true = refl
+      by-tests true false = refl
+      by-tests false t = refl
+
+  pub number-is : {y : ℕ} → Number y ≡ longer x b → y ≡ withDigit x b
+  unfolding longer
+  number-is {y} e = by-tests (isDigit b) (ltb (withDigit x b) (2 ^ 64)) e
+    where
+      by-tests : (d t : Bool) → Number y ≡ pick d (pick t (Number (withDigit x b)) TooLarge) NoDigit → y ≡ withDigit x b
+      by-tests true true e = cc
+      by-tests true false e = cc
+      by-tests false t e = cc
 
 module _ (done : List ℕ) (begun : Bool) (x b : ℕ) (text : List ℕ) where
   pub gap-read : isGap b ≡ true → numbersFrom done begun x (b ∷ text) ≡ numbersFrom (ended done begun x) false 0 text

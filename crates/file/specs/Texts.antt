@@ -1,21 +1,19 @@
 -- The text of cells (house): decimal numbers with gaps between them, and how they are read. Assumes nothing.
-use Prim.Native.Nat.{ℕ, _+_, _*_, _-_, _^_}
+use Prim.Native.Nat.{ℕ, _^_}
 use mathlib.Core.List.{List, [], _∷_, _++_}
 use mathlib.Core.Bool.{Bool, true, false}
 use mathlib.Core.Option.{Option, none, some}
 use lib.Dec.{eqb, ltb}
 use lib.ListN.{length}
 use Rattle.rules.specs.Words.{pick, both, either}
-use Rattle.rules.specs.Cards.{zeroByte, spaceByte, isDigit}
+use Rattle.rules.specs.Cards.{spaceByte, isDigit}
+use Rattle.bytes.specs.Longer.{withDigit}
 
 -- A gap is spaces and line ends. The byte 13 stands before each line end in a file from a PC.
 abbrev pub isGap : ℕ → Bool
 isGap b = either (eqb b spaceByte) (either (eqb b 10) (eqb b 13))
 
--- a number with one more digit, and whether that is a digit and the number still below 2 to the power 64
-abbrev pub withDigit : ℕ → ℕ → ℕ
-withDigit x b = 10 * x + (b - zeroByte)
-
+-- whether a number takes one more digit: it is a digit, and the number still below 2 to the power 64
 abbrev pub takes : ℕ → ℕ → Bool
 takes x b = both (isDigit b) (ltb (withDigit x b) (2 ^ 64))
 

@@ -4,9 +4,9 @@ ghost use lib.ListN.{length};
 ghost use Prim.Native.Nat.{_≤_};
 ghost use Rattle.file.specs.Files.{stateOf};
 ghost use Rattle.file.specs.Reads.{notFound, FileRead};
-use crate::parts::fill_bytes;
 use crate::parts::fill_row;
 use crate::states::state_in;
+use bytes::copy;
 use rules::State;
 
 // Whether a file was read, and the state in it.
@@ -56,7 +56,7 @@ pub fn read_file(drum: &mut [u64], marks: &mut [u8], bytes: &[u8]) -> Found
         return nothing();
     }
     fill_row(drum, bytes, 0);
-    fill_bytes(marks, bytes, 8000);
+    copy(marks, 0, bytes, 8000, 1000);
     let state = state_at(bytes);
     Found { good: true, state }
 }

@@ -1,4 +1,3 @@
 pub mod Listing
 pub mod Examples
-pub mod Rows
 pub mod Listed
