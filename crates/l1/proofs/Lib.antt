@@ -1,4 +1,3 @@
-pub mod Letters
+pub mod Counted
 pub mod Rooms
 pub mod Answers
-pub mod Fits

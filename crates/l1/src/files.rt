@@ -3,7 +3,7 @@ ghost use Rattle.io.specs.Counts.{Counts};
 ghost use Rattle.libc.specs.Io.{Ended};
 ghost use mathlib.Core.Path.{_≡_};
 ghost use lib.ListN.{length};
-ghost use Prim.Native.Nat.{_+_, _≤_};
+ghost use Prim.Native.Nat.{_≤_};
 
 // Whether a file was read, and how many bytes of the room it took.
 pub struct Filled {
@@ -104,19 +104,6 @@ pub fn make(path: &[u8], bytes: &[u8]) -> bool {
     true
 }
 
-// The first n bytes of a part are put at a place.
-fn copy(out: &mut [u8], at: usize, part: &[u8], n: usize)
-    requires { ⌜ at + n ≤ length (now out) ⌝ }
-    requires { ⌜ n ≤ length (now part) ⌝ }
-    ensures { λ _. ⌜ length (now (out .exit)) ≡ length (now (out .entry)) ⌝ }
-{
-    let mut i: usize = 0;
-    while i < n {
-        out[at + i] = part[i];
-        i += 1;
-    }
-}
-
 // The smaller of two numbers.
 fn least(a: usize, b: usize) -> usize
     ensures { λ r. ⌜ (r ≤ a) × (r ≤ b) ⌝ }
@@ -131,7 +118,7 @@ fn put(out: &mut [u8], at: usize, part: &[u8]) -> usize
 {
     let left = out.len() - at;
     let n = least(part.len(), left);
-    copy(out, at, part, n);
+    bytes::copy(out, at, part, 0, n);
     at + n
 }
 

@@ -4,7 +4,6 @@ ghost use Prim.Native.Nat.{_≤_};
 ghost use lib.ListN.{length};
 use crate::files::fill;
 use crate::machines::hold;
-use crate::machines::is_fit;
 use crate::sessions::empty_drum;
 use crate::sessions::no_marks;
 use crate::telling::send_first;
@@ -200,7 +199,7 @@ pub fn cells(path: &[u8]) {
         tell_bar(Bar::BadDrum);
         return;
     }
-    if !is_fit(&mut drum, &mut marks) {
+    if !drum::is_fit(&drum, &marks) {
         tell_bar(Bar::BadDrum);
         return;
     }

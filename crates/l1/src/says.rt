@@ -1,6 +1,6 @@
 // What is said to a person, on standard error.
-use crate::words::Command;
-use crate::words::Trouble;
+use calls::Command;
+use calls::Trouble;
 use libc::STDERR_FILENO;
 
 // A text as it is.

@@ -1,5 +1,9 @@
 -- `l1::telling::put_answer` meets its contract: the writers of a stop card and of a line say the rest. Assumes nothing.
-use Rattle.l1.proofs.Answers.{answer-counts, line-told, stop-told, stop-untold}
+use mathlib.Core.Path.{sym, ap}
+use mathlib.Core.Bool.{Bool}
+use Prim.Native.Nat.{ℕ}
+use Rattle.rules.specs.Words.{pick}
+use Rattle.l1.proofs.Answers.{closed-counts, line-told, stop-told}
 use borrow.Author.Needs.{needs}
 use Rattle.l1.proofs.telling.put_answer.Statement.{statement}
 use Rattle.l1.proofs.telling.put_answer.Tie as tie

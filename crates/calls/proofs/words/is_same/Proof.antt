@@ -1,13 +1,13 @@
--- `l1::words::is_same` meets its contract: what is left of the two words is the same just where they are. Assumes nothing.
+-- `calls::is_same` meets its contract: what is left of the two words is the same just where they are. Assumes nothing.
 use mathlib.Core.Path.{_≡_, refl, sym, _∙_}
 use Prim.Native.Nat.{_≤_, _-_}
 use native.Mathlib.Omega.{arith}
 use lib.ListN.{length, drop}
-use Rattle.l1.specs.Words.{sameBytes}
-use Rattle.l1.proofs.Letters.{same-not, same-differs, same-more, same-end}
+use Rattle.calls.specs.Words.{sameBytes}
+use Rattle.calls.proofs.Letters.{same-not, same-differs, same-more, same-end}
 use borrow.Author.Needs.{needs}
-use Rattle.l1.proofs.words.is_same.Statement.{statement}
-use Rattle.l1.proofs.words.is_same.Tie as tie
+use Rattle.calls.proofs.words.is_same.Statement.{statement}
+use Rattle.calls.proofs.words.is_same.Tie as tie
 
 abbrev Inv-loop : tie.InvT-loop
 Inv-loop a b i₀ i = (i ≤ length a) × (length a ≡ length b) × (sameBytes (drop i a) (drop i b) ≡ sameBytes a b)
@@ -28,7 +28,12 @@ shared-slice-read-if2-2 : tie.Need-shared-slice-read-if2-2 Inv-loop μ-loop
 shared-slice-read-if2-2 c = search needs
 
 returns-2 : tie.Need-returns-2 Inv-loop μ-loop
-returns-2 c = let a = c .before .before .before .before .before .before .args .a .now in let b = c .before .before .before .before .before .before .args .b .now in let v = c .before .before .before .before .loop .inv in sym (sym (v .2) ∙ same-differs a b (c .before .before .before .before .loop .i) (omega arith) (omega arith) (c .if2 .taken))
+returns-2 c =
+    let start : tie.Start Inv-loop μ-loop = search in
+    let loop : tie.At-loop Inv-loop μ-loop = search in
+    let a = start .args .a .now in
+    let b = start .args .b .now in
+    sym (sym (loop .loop .inv .2) ∙ same-differs a b (loop .loop .i) (omega arith) (omega arith) (c .if2 .taken))
 
 add-i : tie.Need-add-i Inv-loop μ-loop
 add-i c = search needs
@@ -37,10 +42,20 @@ loop-less : tie.Need-loop-less Inv-loop μ-loop
 loop-less c = search needs
 
 loop-again : tie.Need-loop-again Inv-loop μ-loop
-loop-again c = let a = c .before .before .before .before .before .before .args .a .now in let b = c .before .before .before .before .before .before .args .b .now in let v = c .before .before .before .before .loop .inv in (omega arith, v .1, same-more a b (c .before .before .before .before .loop .i) (omega arith) (omega arith) (c .if2 .left) ∙ v .2)
+loop-again c =
+    let start : tie.Start Inv-loop μ-loop = search in
+    let loop : tie.At-loop Inv-loop μ-loop = search in
+    let a = start .args .a .now in
+    let b = start .args .b .now in
+    (omega arith, loop .loop .inv .1, same-more a b (loop .loop .i) (omega arith) (omega arith) (c .if2 .left) ∙ loop .loop .inv .2)
 
 returns-3 : tie.Need-returns-3 Inv-loop μ-loop
-returns-3 c = let a = c .before .before .before .args .a .now in let b = c .before .before .before .args .b .now in let v = c .before .loop .inv in sym (sym (v .2) ∙ same-end a b (c .before .loop .i) (omega arith) (omega arith))
+returns-3 c =
+    let start : tie.Start Inv-loop μ-loop = search in
+    let loop : tie.At-loop Inv-loop μ-loop = search in
+    let a = start .args .a .now in
+    let b = start .args .b .now in
+    sym (sym (loop .loop .inv .2) ∙ same-end a b (loop .loop .i) (omega arith) (omega arith))
 
 pub is-same-spec : {M : Type 1} → statement M
 is-same-spec =

@@ -1,7 +1,7 @@
--- `l1::words::form_of` meets its contract, command by command. Assumes nothing.
+-- `calls::form_of` meets its contract, command by command. Assumes nothing.
 use borrow.Author.Needs.{needs}
-use Rattle.l1.proofs.words.form_of.Statement.{statement}
-use Rattle.l1.proofs.words.form_of.Tie as tie
+use Rattle.calls.proofs.options.form_of.Statement.{statement}
+use Rattle.calls.proofs.options.form_of.Tie as tie
 
 enum-told : tie.Need-enum-told
 enum-told c = search needs

@@ -1,7 +1,7 @@
--- `l1::words::behind_names` meets its contract, command by command. Assumes nothing.
+-- `calls::behind_names` meets its contract, command by command. Assumes nothing.
 use borrow.Author.Needs.{needs}
-use Rattle.l1.proofs.words.behind_names.Statement.{statement}
-use Rattle.l1.proofs.words.behind_names.Tie as tie
+use Rattle.calls.proofs.words.behind_names.Statement.{statement}
+use Rattle.calls.proofs.words.behind_names.Tie as tie
 
 enum-told : tie.Need-enum-told
 enum-told c = search needs

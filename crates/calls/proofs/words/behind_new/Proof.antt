@@ -1,8 +1,8 @@
--- `l1::words::behind_new` meets its contract, by its test. Assumes nothing.
+-- `calls::behind_new` meets its contract, by its test. Assumes nothing.
 use borrow.Author.Tests.{lt-ltb, le-ltb}
 use mathlib.Core.Path.{refl}
-use Rattle.l1.proofs.words.behind_new.Statement.{statement}
-use Rattle.l1.proofs.words.behind_new.Tie as tie
+use Rattle.calls.proofs.words.behind_new.Statement.{statement}
+use Rattle.calls.proofs.words.behind_new.Tie as tie
 
 returns : tie.Need-returns
 returns c = rw (lt-ltb 3 (c .before .args .count) (c .if1 .taken))

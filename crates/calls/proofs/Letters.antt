@@ -8,19 +8,16 @@ use native.Mathlib.Numerals.{add-one}
 use native.Mathlib.Omega.{arith}
 use lib.Dec.{eqb, leb, ltb}
 use lib.ListN.{length, take, drop, getD, length-take, length-drop, drop-of-length-le}
-use lib.Seq.{drop-cons, take-all, length-take-le}
-use borrow.Author.Tests.{le-leb, lt-leb, lt-ltb, le-ltb, eq-eqb, ne-eqb}
+use lib.Seq.{drop-cons, take-all}
+use borrow.Author.Tests.{leb-true, lt-ltb, le-ltb, eq-eqb, ne-eqb}
 use Rattle.rules.specs.Bytes.{bytes}
 use Rattle.rules.specs.Words.{both}
-use Rattle.io.specs.Counts.{Counts}
-use Rattle.l1.specs.Words.{sameBytes, allDigits, isNumber, valueFrom, cappedNumber, tracedWord, stopWord, budgetMark, askedBy}
-use Rattle.l1.specs.declared.words.Asked.{Asked}
-use Rattle.l1.specs.declared.words.Asked.the-variants.{Budget, NoNumber, Nothing}
-
--- ---- counts
-
-pub counts : (n : ℕ) (l : List ℕ) → n ≤ length l → Counts n l
-counts n l h = (h, sym (length-take-le n l h))
+use Rattle.rules.specs.Cards.{isDigit}
+use Rattle.bytes.specs.Longer.{withDigit}
+use Rattle.rules.proofs.Tests.{both-first}
+use Rattle.calls.specs.Words.{sameBytes, allDigits, isNumber, valueFrom, cappedNumber, tracedWord, stopWord, budgetMark, askedBy}
+use Rattle.calls.specs.declared.words.Asked.{Asked}
+use Rattle.calls.specs.declared.words.Asked.the-variants.{Budget, NoNumber, Nothing}
 
 -- ---- the same word
 
@@ -53,10 +50,10 @@ module _ (a b : List ℕ) (i : ℕ) (h : i < length a) (k : i < length b) where
 
 -- ---- numbers
 
-abbrev isFigure : ℕ → Bool
-isFigure b = both (leb 48 b) (leb b 57)
+pub digit-low : (b : ℕ) → isDigit b ≡ true → 48 ≤ b
+digit-low b e = leb-true 48 b (both-first (leb 48 b) (leb b 57) e)
 
-digits-next : (t : List ℕ) (i : ℕ) → i < length t → allDigits (drop i t) ≡ both (isFigure (getD t i 0)) (allDigits (drop (i + 1) t))
+digits-next : (t : List ℕ) (i : ℕ) → i < length t → allDigits (drop i t) ≡ both (isDigit (getD t i 0)) (allDigits (drop (i + 1) t))
 unfolding allDigits
 digits-next t i h = rw (add-one, drop-cons t i 0 h)
 
@@ -64,7 +61,7 @@ digits-end : (t : List ℕ) (i : ℕ) → length t ≤ i → allDigits (drop i t
 unfolding allDigits
 digits-end t i h = rw (drop-of-length-le t h)
 
-value-next : (t : List ℕ) (i x : ℕ) → i < length t → valueFrom x (drop i t) ≡ valueFrom (10 * x + (getD t i 0 - 48)) (drop (i + 1) t)
+value-next : (t : List ℕ) (i x : ℕ) → i < length t → valueFrom x (drop i t) ≡ valueFrom (withDigit x (getD t i 0)) (drop (i + 1) t)
 unfolding valueFrom
 value-next t i x h = rw (add-one, drop-cons t i 0 h)
 
@@ -107,27 +104,20 @@ all-but true = refl
 all-but false = refl
 
 module _ (t : List ℕ) (x i : ℕ) (l : Left t x i) (h : i < length t) where
-  pub left-bad : (both (leb 48 (getD t i 0)) (leb (getD t i 0) 57) ≡ false) → NoNumber ≡ cappedNumber t
+  pub left-bad : isDigit (getD t i 0) ≡ false → NoNumber ≡ cappedNumber t
   left-bad e =
       let d : allDigits t ≡ false = sym (l .rest) ∙ digits-next t i h ∙ rw e in
       no-number t (rw d (all-but (ltb 0 (length t))))
 
-  pub left-low : getD t i 0 < 48 → NoNumber ≡ cappedNumber t
-  left-low k = left-bad (rw (lt-leb 48 (getD t i 0) k))
-
-  pub left-high : 57 < getD t i 0 → NoNumber ≡ cappedNumber t
-  left-high k = left-bad (rw (lt-leb (getD t i 0) 57 k) (all-but (leb 48 (getD t i 0))))
-
-  pub left-more : (y : ℕ) → 48 ≤ getD t i 0 → getD t i 0 ≤ 57 → y ≡ min 1000000 (10 * x + (getD t i 0 - 48)) → Left t y (i + 1)
-  left-more y low high e =
+  pub left-more : (y : ℕ) → isDigit (getD t i 0) ≡ true → y ≡ min 1000000 (withDigit x (getD t i 0)) → Left t y (i + 1)
+  left-more y d e =
       record {
         within = omega arith;
         small = omega arith;
-        rest =
-            sym (digits-next t i h ∙ rw (le-leb 48 (getD t i 0) low, le-leb (getD t i 0) 57 high)) ∙ l .rest;
+        rest = sym (digits-next t i h ∙ rw d) ∙ l .rest;
         value =
             rw e
-            (capped (10 * x + (getD t i 0 - 48)) (drop (i + 1) t) ∙ ap (λ (z : ℕ). min 1000000 z) (sym (value-next t i x h)) ∙ l .value);
+            (capped (withDigit x (getD t i 0)) (drop (i + 1) t) ∙ ap (λ (z : ℕ). min 1000000 z) (sym (value-next t i x h)) ∙ l .value);
       }
 
 pub left-ends : (t : List ℕ) (x i : ℕ) → Left t x i → length t ≤ i → 0 < length t → Budget x ≡ cappedNumber t

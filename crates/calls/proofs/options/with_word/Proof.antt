@@ -1,7 +1,7 @@
--- `l1::words::with_word` meets its contract, word by word. Assumes nothing.
+-- `calls::with_word` meets its contract, word by word. Assumes nothing.
 use borrow.Author.Needs.{needs}
-use Rattle.l1.proofs.words.with_word.Statement.{statement}
-use Rattle.l1.proofs.words.with_word.Tie as tie
+use Rattle.calls.proofs.options.with_word.Statement.{statement}
+use Rattle.calls.proofs.options.with_word.Tie as tie
 
 enum-told : tie.Need-enum-told
 enum-told c = search needs

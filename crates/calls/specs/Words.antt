@@ -1,20 +1,22 @@
 -- What the words of a call mean. Assumes nothing.
-use Prim.Native.Nat.{ℕ, _+_, _-_, _*_, min}
+use Prim.Native.Nat.{ℕ, min}
 use mathlib.Core.List.{List, [], _∷_}
 use mathlib.Core.Bool.{Bool, true, false}
-use lib.Dec.{eqb, leb, ltb}
+use lib.Dec.{eqb, ltb}
 use lib.ListN.{length, take, drop}
 use Rattle.rules.specs.Bytes.{bytes}
 use Rattle.rules.specs.Words.{pick, both}
-use Rattle.l1.specs.declared.words.Command.{Command}
-use Rattle.l1.specs.declared.words.Command.the-variants.{Session, New, Load, Run, Deck, List as ListCards, Cells, Unknown}
-use Rattle.l1.specs.declared.words.Asked.{Asked}
-use Rattle.l1.specs.declared.words.Asked.the-variants.{Traced, Stop, Budget, NoNumber, Nothing}
-use Rattle.l1.specs.declared.words.Turn.{Turn}
-use Rattle.l1.specs.declared.words.Turn.the-variants.{Never, Open, Given}
-use Rattle.l1.specs.declared.words.Trouble.{Trouble}
-use Rattle.l1.specs.declared.words.Trouble.the-variants.{Fine, Stray, Twice, NotNumber}
-use Rattle.l1.specs.declared.words.Options.{Options}
+use Rattle.rules.specs.Cards.{isDigit}
+use Rattle.bytes.specs.Longer.{withDigit}
+use Rattle.calls.specs.declared.words.Command.{Command}
+use Rattle.calls.specs.declared.words.Command.the-variants.{Session, New, Load, Run, Deck, List as ListCards, Cells, Unknown}
+use Rattle.calls.specs.declared.words.Asked.{Asked}
+use Rattle.calls.specs.declared.words.Asked.the-variants.{Traced, Stop, Budget, NoNumber, Nothing}
+use Rattle.calls.specs.declared.options.Turn.{Turn}
+use Rattle.calls.specs.declared.options.Turn.the-variants.{Never, Open, Given}
+use Rattle.calls.specs.declared.options.Trouble.{Trouble}
+use Rattle.calls.specs.declared.options.Trouble.the-variants.{Fine, Stray, Twice, NotNumber}
+use Rattle.calls.specs.declared.options.Options.{Options}
 
 -- whether two words are the same, byte for byte
 unfoldable pub sameBytes : List ℕ → List ℕ → Bool
@@ -70,7 +72,7 @@ isKnown Unknown = false
 -- whether there are decimal digits and nothing else
 unfoldable pub allDigits : List ℕ → Bool
 allDigits [] = true
-allDigits (b ∷ l) = both (both (leb 48 b) (leb b 57)) (allDigits l)
+allDigits (b ∷ l) = both (isDigit b) (allDigits l)
 
 abbrev pub isNumber : List ℕ → Bool
 isNumber t = both (ltb 0 (length t)) (allDigits t)
@@ -78,7 +80,7 @@ isNumber t = both (ltb 0 (length t)) (allDigits t)
 -- the number that the digits of l are behind those of x
 unfoldable pub valueFrom : ℕ → List ℕ → ℕ
 valueFrom x [] = x
-valueFrom x (b ∷ l) = valueFrom (10 * x + (b - 48)) l
+valueFrom x (b ∷ l) = valueFrom (withDigit x b) l
 
 abbrev pub valueOf : List ℕ → ℕ
 valueOf t = valueFrom 0 t
@@ -150,6 +152,11 @@ withWord o (Budget n) = withBudget o n
 withWord o NoNumber = o
 withWord o Nothing = o
 
+-- a call that is not to be obeyed
+abbrev pub spoiltOf : Options → Options
+spoiltOf o = record { good = false; traced = o .traced; stop = o .stop; limit = o .limit; budget = o .budget }
+
+-- whether a word came
 abbrev pub isGiven : Turn → Bool
 isGiven Never = false
 isGiven Open = false
