@@ -61,7 +61,7 @@ pub fn read_whole(room: &mut [u8], path: &[u8]) -> Filled
 {
     let fd = os::open_read(path);
     if fd < 0 {
-        crate::says::failed(path);
+        says::failed(path);
         return Filled {
             good: false,
             count: 0,
@@ -69,7 +69,7 @@ pub fn read_whole(room: &mut [u8], path: &[u8]) -> Filled
     }
     let x = fill(fd, room);
     if !x.good {
-        crate::says::failed(path);
+        says::failed(path);
     }
     libc::close(fd);
     x
@@ -92,12 +92,12 @@ fn write_out(fd: i32, bytes: &[u8]) -> bool {
 pub fn make(path: &[u8], bytes: &[u8]) -> bool {
     let fd = os::create(path);
     if fd < 0 {
-        crate::says::failed(path);
+        says::failed(path);
         return false;
     }
     libc::fchmod(fd, 0o600);
     if !write_out(fd, bytes) {
-        crate::says::failed(path);
+        says::failed(path);
         os::unlink(path);
         return false;
     }
@@ -134,16 +134,16 @@ fn name_beside(name: &mut [u8], path: &[u8]) -> usize
 fn replace_by(name: &mut [u8], path: &[u8], bytes: &[u8]) -> bool {
     let fd = os::create_temp(name);
     if fd < 0 {
-        crate::says::failed(name);
+        says::failed(name);
         return false;
     }
     if !write_out(fd, bytes) {
-        crate::says::failed(name);
+        says::failed(name);
         os::unlink(name);
         return false;
     }
     if os::rename(name, path) != 0 {
-        crate::says::failed(path);
+        says::failed(path);
         os::unlink(name);
         return false;
     }

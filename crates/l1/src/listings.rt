@@ -112,7 +112,7 @@ fn list_some(room: &mut [u8], lines: &mut [u8], path: &[u8], fd: i32, window: Wi
     let x = fill(fd, &mut room[kept..]);
     let got = x.count;
     if !x.good {
-        crate::says::failed(path);
+        says::failed(path);
         return closed();
     }
     let n = kept + got;
@@ -158,7 +158,7 @@ pub fn list(path: &[u8]) {
     let mut lines = io::buffer();
     let fd = os::open_read(path);
     if fd < 0 {
-        crate::says::failed(path);
+        says::failed(path);
         return;
     }
     list_all(&mut room, &mut lines, path, fd);

@@ -65,7 +65,7 @@ fn keep(path: &[u8], drum: &[u64], marks: &[u8], state: State) -> bool {
     if crate::files::replace(path, &bytes) {
         return true;
     }
-    crate::says::kept(path);
+    says::kept(path);
     false
 }
 
@@ -118,7 +118,7 @@ fn run_on(path: &[u8], deck: &[u8], budget: u64, switches: Switches) {
         switches,
     );
     if !g.sent {
-        crate::says::kept(path);
+        says::kept(path);
         return;
     }
     let ending = g.ending;
@@ -133,7 +133,7 @@ fn finish(path: &[u8], drum: &[u64], marks: &[u8], ending: Ending, state: State,
         Ending::Ran(_) => {
             if keep(path, drum, marks, state) {
                 if !tell(ending, state, count) {
-                    crate::says::replaced(path);
+                    says::replaced(path);
                 }
             }
         }
@@ -143,7 +143,7 @@ fn finish(path: &[u8], drum: &[u64], marks: &[u8], ending: Ending, state: State,
 // Load on the machine file at path, with the deck that the next word names.
 pub fn load(path: &[u8], options: Options) {
     if crate::files::is_link(path) {
-        crate::says::link(path);
+        says::link(path);
         return;
     }
     let mut name = io::buffer();
@@ -165,7 +165,7 @@ pub fn load(path: &[u8], options: Options) {
 // Run on the machine file at path, with the deck that the next word names.
 pub fn run(path: &[u8], options: Options) {
     if crate::files::is_link(path) {
-        crate::says::link(path);
+        says::link(path);
         return;
     }
     let mut name = io::buffer();
@@ -204,11 +204,11 @@ fn fill_drum(drum: &mut [u64], path: &[u8]) -> bool {
     }
     let n = x.count;
     if 262_144 < n {
-        crate::says::too_long(path);
+        says::too_long(path);
         return false;
     }
     if !file::read_cells(drum, &room[..n]) {
-        crate::says::not_cells(path);
+        says::not_cells(path);
         return false;
     }
     true

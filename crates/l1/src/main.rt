@@ -3,7 +3,6 @@
 mod files;
 mod listings;
 mod machines;
-mod says;
 mod sessions;
 mod telling;
 mod words;

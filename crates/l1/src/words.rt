@@ -34,7 +34,7 @@ fn take_word(options: Options, i: usize) -> Options {
     match trouble {
         Trouble::Fine => with_word(options, asked),
         Trouble::Stray | Trouble::Twice | Trouble::NotNumber => {
-            crate::says::refused(&word[..n], trouble);
+            says::refused(&word[..n], trouble);
             spoilt(options)
         }
     }
@@ -58,7 +58,7 @@ pub fn options_of(command: Command) -> Options {
     let count = os::arg_count();
     let from = behind_names(command, count);
     if count < from {
-        crate::says::missing();
+        says::missing();
         return spoilt(form);
     }
     take_words(form, from)
@@ -70,7 +70,7 @@ pub fn name_at(name: &mut [u8], i: usize) -> Named
 {
     let n = os::arg(i, name);
     if os::errno() != 0 {
-        crate::says::failed(b"a file's name");
+        says::failed(b"a file's name");
         return Named {
             good: false,
             count: 0,

@@ -1,6 +1,6 @@
 -- `l1::files::put` answers a place within the output. Assumes nothing.
 use native.Mathlib.Omega.{arith}
-use Rattle.l1.proofs.Counted.{counts}
+use Rattle.says.proofs.Counted.{counts}
 use borrow.Author.Needs.{needs}
 use Rattle.l1.proofs.files.put.Statement.{statement}
 use Rattle.l1.proofs.files.put.Tie as tie

@@ -18,8 +18,8 @@ use Rattle.rules.specs.declared.Ending.the-variants.{Ran, NotRun}
 use Rattle.rules.proofs.Fields.{length-stop}
 use Rattle.card.specs.Written.{stopMay, fits, Wrote, WroteLine}
 use Rattle.io.specs.Counts.{Counts}
-use Rattle.l1.specs.Told.{mayClose, Closed}
-use Rattle.l1.proofs.Counted.{counts}
+use Rattle.says.specs.Told.{mayClose, Closed}
+use Rattle.says.proofs.Counted.{counts}
 
 over-long : (s out : List ℕ) → length s ≤ length (over s out)
 unfolding over
