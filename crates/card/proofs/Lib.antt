@@ -2,7 +2,6 @@ pub mod Looks
 pub mod Forms
 pub mod Checks
 pub mod DataCards
-pub mod Splices
 pub mod Writes
 pub mod OneAnswer
 pub mod Trips

@@ -1,11 +1,11 @@
 -- What writing a card leaves in the output: all of the card over its start, or, where a field is out of range or the room too small,
 -- nothing at all. Assumes nothing.
-use Prim.Native.Nat.{ℕ, _+_}
+use Prim.Native.Nat.{ℕ}
 use mathlib.Core.Path.{_≡_}
-use mathlib.Core.List.{List, [], _∷_, _++_}
+use mathlib.Core.List.{List, [], _∷_}
 use mathlib.Core.Bool.{Bool, true}
 use lib.Dec.{leb}
-use lib.ListN.{length, take, drop}
+use lib.ListN.{length, take}
 use Rattle.rules.specs.Words.{pick, both, isWord}
 use Rattle.rules.specs.Cards.{cellsFit}
 use Rattle.rules.specs.Running.{over}
@@ -50,7 +50,3 @@ pub record Wrote (may : Bool) (card before : List ℕ) (said : Bool) (after : Li
 pub record WroteLine (line before : List ℕ) (said : ℕ) (after : List ℕ) : Type 0 where
   pub answer : said ≡ pick (fits true line before) (length line) 0
   pub bytes : after ≡ written true line before
-
--- d with s from place a on
-unfoldable pub splice : ℕ → List ℕ → List ℕ → List ℕ
-splice a s d = take a d ++ s ++ drop (a + length s) d

@@ -5,7 +5,7 @@ ghost use Rattle.card.specs.Forms.{isSecond};
 use crate::fields::cells_fit;
 use crate::fields::form_of;
 use crate::fields::is_due;
-use crate::fields::number_in;
+use bytes::number_in;
 use rules::Deck;
 use rules::DeckFault;
 use rules::Fault;

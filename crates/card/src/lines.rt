@@ -3,24 +3,12 @@ ghost use mathlib.Core.Path.{_≡_};
 ghost use mathlib.Core.List.{_∷_, _++_};
 ghost use Prim.Native.Nat.{_+_, _≤_};
 ghost use lib.ListN.{length};
-ghost use Rattle.rules.specs.Cards.{digits, width, refusalLine};
+ghost use Rattle.rules.specs.Cards.{digits, refusalLine};
 ghost use Rattle.rules.specs.Running.{over};
 ghost use Rattle.card.specs.Written.{WroteLine};
-use crate::parts::put_byte;
-use crate::parts::put_field;
-
-// How many digits a number has: 1 for 0.
-fn width_of(x: u64) -> usize
-    ensures { λ r. ⌜ (r ≡ width 20 x) × (r ≤ 20) ⌝ }
-{
-    let mut n: usize = 1;
-    let mut y = x;
-    while 10 <= y {
-        y = y / 10;
-        n += 1;
-    }
-    n
-}
+use bytes::put_byte;
+use bytes::put_field;
+use bytes::width_of;
 
 // The whole of a line, over the start of the output: the number in a digits, a space, and the place in b digits.
 fn put_line(out: &mut [u8], number: u64, a: usize, place: u64, b: usize)

@@ -3,11 +3,11 @@ ghost use mathlib.Core.Path.{_≡_};
 ghost use Prim.Native.Nat.{_-_};
 ghost use Rattle.rules.specs.Cards.{badFrom, wordIn, wordPlace, cardOf};
 ghost use Rattle.rules.specs.Decks.{cardAt};
-use crate::fields::byte_at;
 use crate::fields::cells_fit;
 use crate::fields::form_of;
 use crate::fields::is_due;
-use crate::fields::number_in;
+use bytes::byte_at;
+use bytes::number_in;
 use rules::Card;
 use rules::Fault;
 

@@ -6,13 +6,13 @@ ghost use lib.ListN.{length, take};
 ghost use Rattle.rules.specs.Cards.{dataCard, traceCard, stopCard};
 ghost use Rattle.rules.specs.Running.{over};
 ghost use Rattle.card.specs.Written.{dataMay, traceMay, stopMay, Wrote};
-use crate::parts::put_byte;
 use crate::parts::put_card;
-use crate::parts::put_field;
-use crate::parts::put_word;
 use crate::ranges::data_may;
 use crate::ranges::stop_may;
 use crate::ranges::trace_may;
+use bytes::put_byte;
+use bytes::put_field;
+use bytes::put_word;
 
 // A data card of the first n words, and whether it was written.
 pub fn write_data(

@@ -1,4 +1,5 @@
-pub mod Copies
+pub mod Files
+pub mod Numbers
 pub mod Scans
 pub mod Wholes
 pub mod Trips

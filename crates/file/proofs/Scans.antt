@@ -12,9 +12,10 @@ use lib.ListN.{length, getD, take, drop, set, length-append, length-set, drop-of
 use lib.Seq.{drop-cons, length-take-le, take-suc-set, take-all}
 use borrow.Author.Tests.{eqb-true}
 use Rattle.rules.specs.Words.{pick}
-use Rattle.rules.specs.Texts.{isGap, takes, withDigit, ended, numbersFrom, numbersIn, isCount}
+use Rattle.bytes.specs.Longer.{withDigit}
+use Rattle.file.specs.Texts.{isGap, takes, ended, numbersFrom, numbersIn, isCount}
 use Rattle.rules.proofs.Tests.{false-true}
-use Rattle.rules.proofs.Texts.{gap-read, digit-read, bad-read, too-many}
+use Rattle.file.proofs.Numbers.{gap-read, digit-read, bad-read, too-many}
 use Rattle.file.specs.Reads.{Scanned}
 
 -- i bytes are read, n numbers have ended, and x is what there is of the next, if it was begun

@@ -9,11 +9,12 @@ use lib.ListN.{length, drop, length-drop, drop-of-length-le}
 use lib.Seq.{length-take-le}
 use borrow.Author.Tests.{eqb-true}
 use Rattle.rules.specs.Words.{pick}
-use Rattle.rules.specs.Files.{isWhole, fileOf, drumIn, marksIn, stateOf, noState}
+use Rattle.rules.specs.States.{noState}
+use Rattle.file.specs.Files.{isWhole, fileOf, drumIn, marksIn, stateOf}
 use Rattle.rules.specs.Running.{over}
 use Rattle.rules.specs.declared.State.{State}
 use Rattle.rules.proofs.Tests.{both-first, both-second}
-use Rattle.rules.proofs.Files.{length-in, length-file, drum-read, marks-read, state-read, file-written}
+use Rattle.file.proofs.Files.{length-in, length-file, drum-read, marks-read, state-read, file-written}
 use Rattle.card.proofs.Writes.{was-whole}
 use Rattle.file.specs.Reads.{isFile}
 use Rattle.file.specs.Trips.{WrittenIsRead, ReadIsWritten}

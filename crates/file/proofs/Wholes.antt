@@ -8,8 +8,9 @@ use lib.Dec.{eqb}
 use lib.ListN.{length}
 use borrow.Author.Tests.{eq-eqb, ne-eqb}
 use Rattle.rules.specs.Words.{pick, both}
-use Rattle.rules.specs.Files.{isWhole, drumIn, marksIn, stateOf, noState}
-use Rattle.rules.specs.Texts.{numbersIn, isCount, numbersOr, fills, drumFilled}
+use Rattle.rules.specs.States.{noState}
+use Rattle.file.specs.Files.{isWhole, drumIn, marksIn, stateOf}
+use Rattle.file.specs.Texts.{numbersIn, isCount, numbersOr, fills, drumFilled}
 use Rattle.file.specs.Reads.{isFile, notFound, FileRead, CellsRead}
 use Rattle.file.specs.declared.reading.Found.{Found}
 

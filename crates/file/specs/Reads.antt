@@ -8,8 +8,9 @@ use mathlib.Core.Option.{Option, some}
 use lib.Dec.{eqb}
 use lib.ListN.{length}
 use Rattle.rules.specs.Words.{pick, both}
-use Rattle.rules.specs.Files.{isWhole, fileSize, drumIn, marksIn, stateOf, noState}
-use Rattle.rules.specs.Texts.{isCount, fills, drumFilled}
+use Rattle.rules.specs.States.{noState}
+use Rattle.file.specs.Files.{isWhole, fileSize, drumIn, marksIn, stateOf}
+use Rattle.file.specs.Texts.{isCount, fills, drumFilled}
 use Rattle.file.specs.declared.reading.Found.{Found}
 
 -- bytes as many as a file has, and a drum and marks that it can fill

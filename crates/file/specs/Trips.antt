@@ -4,7 +4,7 @@ use mathlib.Core.Path.{_≡_}
 use mathlib.Core.List.{List}
 use mathlib.Core.Bool.{Bool, true}
 use lib.ListN.{length}
-use Rattle.rules.specs.Files.{isWhole, fileSize, fileOf, AllBelow}
+use Rattle.file.specs.Files.{isWhole, fileSize, fileOf, AllBelow}
 use Rattle.rules.specs.Running.{over}
 use Rattle.rules.specs.States.{numbersOf}
 use Rattle.rules.specs.declared.State.{State}

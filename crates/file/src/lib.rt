@@ -1,7 +1,6 @@
 // The machine file, written and read, and the text of cells, read. Each function that is shown here takes any bytes and any numbers.
 mod parts;
 mod reading;
-mod states;
 mod texts;
 mod writing;
 

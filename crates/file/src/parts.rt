@@ -1,10 +1,10 @@
-// What a machine file is made of: a number as eight bytes with the lowest first, numbers in a row, and bytes as they are. Each is
-// written at a place of the output, and read from a place of the file.
+// What a machine file is made of: a number as eight bytes with the lowest first, and numbers in a row. Each is written at a place of the
+// output, and read from a place of the file.
 ghost use mathlib.Core.Path.{_≡_};
 ghost use Prim.Native.Nat.{_+_, _*_, _≤_};
 ghost use lib.ListN.{length, take, drop};
-ghost use Rattle.rules.specs.Files.{lowBytes, rowBytes, numberOf, rowIn};
-ghost use Rattle.card.specs.Written.{splice};
+ghost use Rattle.file.specs.Files.{lowBytes, rowBytes, numberOf, rowIn};
+ghost use Rattle.bytes.specs.Put.{splice};
 
 // A number at place a.
 fn put_number(out: &mut [u8], a: usize, x: u64)
@@ -29,18 +29,6 @@ pub(crate) fn put_row(out: &mut [u8], a: usize, row: &[u64])
     while i < row.len() {
         let x = row[i];
         put_number(out, a + 8 * i, x);
-        i += 1;
-    }
-}
-
-// Bytes from place a on.
-pub(crate) fn put_bytes(out: &mut [u8], a: usize, bytes: &[u8])
-    requires { ⌜ a + length (now bytes) ≤ length (now out) ⌝ }
-    ensures { λ _. ⌜ now (out .exit) ≡ splice a (now (bytes .entry)) (now (out .entry)) ⌝ }
-{
-    let mut i: usize = 0;
-    while i < bytes.len() {
-        out[a + i] = bytes[i];
         i += 1;
     }
 }
@@ -76,18 +64,6 @@ pub(crate) fn fill_row(row: &mut [u64], bytes: &[u8], a: usize)
     while i < row.len() {
         let x = number_at(bytes, a + 8 * i);
         row[i] = x;
-        i += 1;
-    }
-}
-
-// A part is filled with the bytes from place a on.
-pub(crate) fn fill_bytes(part: &mut [u8], bytes: &[u8], a: usize)
-    requires { ⌜ a + length (now part) ≤ length (now bytes) ⌝ }
-    ensures { λ _. ⌜ now (part .exit) ≡ take (length (now (part .entry))) (drop a (now (bytes .entry))) ⌝ }
-{
-    let mut i: usize = 0;
-    while i < part.len() {
-        part[i] = bytes[a + i];
         i += 1;
     }
 }

@@ -2,12 +2,12 @@
 ghost use mathlib.Core.Path.{_≡_};
 ghost use lib.ListN.{length};
 ghost use Prim.Native.Nat.{_≤_};
-ghost use Rattle.rules.specs.Files.{stateOf};
+ghost use Rattle.file.specs.Files.{stateOf};
 ghost use Rattle.file.specs.Reads.{notFound, FileRead};
-use crate::parts::fill_bytes;
 use crate::parts::fill_row;
-use crate::states::state_in;
+use bytes::copy;
 use rules::State;
+use states::state_in;
 
 // Whether a file was read, and the state in it.
 pub struct Found {
@@ -29,15 +29,7 @@ fn state_at(bytes: &[u8]) -> State
 fn nothing() -> Found
     ensures { λ r. ⌜ r ≡ notFound ⌝ }
 {
-    let state = State {
-        location: 0,
-        counts: [0, 0, 0],
-        counter: 0,
-        problem: 0,
-        reader: 0,
-        mode: 0,
-        tracing: 0,
-    };
+    let state = states::none();
     Found { good: false, state }
 }
 
@@ -56,7 +48,7 @@ pub fn read_file(drum: &mut [u64], marks: &mut [u8], bytes: &[u8]) -> Found
         return nothing();
     }
     fill_row(drum, bytes, 0);
-    fill_bytes(marks, bytes, 8000);
+    copy(marks, 0, bytes, 8000, 1000);
     let state = state_at(bytes);
     Found { good: true, state }
 }

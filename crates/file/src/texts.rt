@@ -1,11 +1,12 @@
 // The text of cells read: 1,000 decimal numbers with gaps between them fill a drum, or nothing does.
 ghost use mathlib.Core.Path.{_≡_};
-ghost use mathlib.Core.Bool.{true};
 ghost use Prim.Native.Nat.{_+_, _≤_};
 ghost use lib.ListN.{length, set};
 ghost use Rattle.rules.specs.Words.{pick};
-ghost use Rattle.rules.specs.Texts.{isGap, takes, withDigit, numbersIn};
+ghost use Rattle.file.specs.Texts.{isGap, numbersIn};
 ghost use Rattle.file.specs.Reads.{Scanned, CellsRead};
+use bytes::Longer;
+use bytes::with_digit;
 
 // Whether a byte is in a gap: a space or one of the bytes of a line end.
 fn is_gap(b: u8) -> bool
@@ -18,28 +19,6 @@ fn is_gap(b: u8) -> bool
         return true;
     }
     b == 13
-}
-
-// Whether the byte b is a digit that the number x takes and still fits.
-fn is_taken(x: u64, b: u8) -> bool
-    ensures { λ r. ⌜ r ≡ takes x b ⌝ }
-{
-    if b < b'0' {
-        return false;
-    }
-    if b'9' < b {
-        return false;
-    }
-    let d = (b - b'0') as u64;
-    x <= (18_446_744_073_709_551_615 - d) / 10
-}
-
-// The number x with the digit b behind it.
-fn with_digit(x: u64, b: u8) -> u64
-    requires { ⌜ takes x b ≡ true ⌝ }
-    ensures { λ r. ⌜ r ≡ withDigit x b ⌝ }
-{
-    10 * x + (b - b'0') as u64
 }
 
 // The number x, if it was begun, goes to place n where there is such a place. It answers how many numbers there then are.
@@ -78,11 +57,14 @@ fn scan(cells: &mut [u64], text: &[u8]) -> bool
             x = 0;
             continue;
         }
-        if !is_taken(x, b) {
-            return false;
+        match with_digit(x, b) {
+            Longer::Number(y) => {
+                x = y;
+                begun = true;
+            }
+            Longer::TooLarge => return false,
+            Longer::NoDigit => return false,
         }
-        x = with_digit(x, b);
-        begun = true;
     }
     n = end_number(cells, n, begun, x);
     n == cells.len()

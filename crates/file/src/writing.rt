@@ -3,13 +3,13 @@ ghost use mathlib.Core.Path.{_≡_};
 ghost use mathlib.Core.List.{_++_};
 ghost use Prim.Native.Nat.{_≤_};
 ghost use lib.ListN.{length};
-ghost use Rattle.rules.specs.Files.{isWhole, rowBytes, fileOf};
+ghost use Rattle.file.specs.Files.{isWhole, rowBytes, fileOf};
 ghost use Rattle.rules.specs.Running.{over};
 ghost use Rattle.card.specs.Written.{Wrote};
-use crate::parts::put_bytes;
 use crate::parts::put_row;
-use crate::states::numbers_of;
+use bytes::put_run;
 use rules::State;
+use states::numbers_of;
 
 // The whole of a file: the cells, the marks, and the nine numbers of the state.
 fn put_file(out: &mut [u8], drum: &[u64], marks: &[u8], numbers: &[u64; 9])
@@ -19,7 +19,7 @@ fn put_file(out: &mut [u8], drum: &[u64], marks: &[u8], numbers: &[u64; 9])
     ensures { λ _. ⌜ now (out .exit) ≡ over (rowBytes (now (drum .entry)) ++ now (marks .entry) ++ rowBytes (now (numbers .entry))) (now (out .entry)) ⌝ }
 {
     put_row(out, 0, drum);
-    put_bytes(out, 8000, marks);
+    put_run(out, 8000, marks);
     put_row(out, 9000, numbers);
 }
 

@@ -1,4 +1,1 @@
-pub mod Letters
 pub mod Rooms
-pub mod Answers
-pub mod Fits

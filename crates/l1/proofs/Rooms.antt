@@ -1,32 +1,32 @@
 -- Laws of a run in a room that is emptied when it is full: each room takes some of the budget, so they come to an end. Assumes nothing.
 use Prim.Native.Nat.{ℕ, zero, suc, _+_, _-_, _≤_, _<_}
 use mathlib.Core.Path.{_≡_, refl, sym, ap, ap₂, _∙_}
-use mathlib.Core.List.{List, _++_}
+use mathlib.Core.List.{List}
 use mathlib.Core.Bool.{Bool, true, false, true≢false}
 use native.Mathlib.Omega.{arith}
-use lib.ListN.{length, drop, length-append, length-drop}
+use lib.ListN.{length, length-append, length-drop}
 use Rattle.rules.specs.Words.{pick}
 use Rattle.rules.specs.Numbers.{completed, mayGoOn}
 use Rattle.rules.specs.Drum.{view, drumFits}
 use Rattle.rules.specs.Decks.{deckOf}
 use Rattle.rules.specs.Machine.{Machine, Inputs}
-use Rattle.rules.specs.Running.{Course, RunResult, step, runFrom, over, notRun, begun, inputs, stateFits, ranAs, ranOn, ran}
+use Rattle.rules.specs.Running.{RunCall, RunResult, step, runFrom, over, notRun, begun, inputs, stateFits, ranAs, ranOn, ran}
 use Rattle.rules.specs.declared.State.{State}
+use Rattle.rules.specs.declared.Switches.{Switches}
 use Rattle.rules.specs.declared.Outcome.{Outcome}
-use Rattle.rules.specs.declared.Outcome.the-variants.{GoesOn, Stopped, Paused, Undone}
+use Rattle.rules.specs.declared.Outcome.the-variants.{GoesOn, Stops, Undone}
 use Rattle.rules.specs.declared.Deck.{Deck}
 use Rattle.rules.specs.declared.Deck.the-variants.{Good, Faulty}
 use Rattle.rules.specs.declared.Bar.the-variants.{BadDrum, BadDeck, BadState}
 use Rattle.rules.specs.declared.Ending.{Ending}
-use Rattle.machine.specs.Lent.{RunRight}
+use Rattle.machine.specs.Lent.{RunRight, callOf}
 use Rattle.machine.specs.declared.Ran.{Ran}
-use Rattle.l1.specs.Going.{Whole, mayRefill, endedAs, goneOn, WentOn}
+use Rattle.l1.specs.Going.{Whole, mayRefill, endedAs, refilled, goneOn, WentOn}
 
 -- ---- a run's count is within its budget
 
 one-at-most : (o : Outcome) → completed o ≤ 1
-one-at-most (Stopped w) = omega arith
-one-at-most (Paused w) = omega arith
+one-at-most (Stops k w) = omega arith
 one-at-most GoesOn = omega arith
 one-at-most (Undone r) = omega arith
 
@@ -41,32 +41,30 @@ count-within i (suc k) m n = go (mayGoOn (step i m .outcome)) refl (count-within
     go false e h = rw (e, runFrom) (omega (arith, one-at-most (step i m .outcome)))
 
 -- what is said of a run's result, where no run is made and where one is made
-module _ (P : RunResult → Type 0) (drum marks deck out : List ℕ) (s : State) (budget : ℕ) (stop : Bool)
-    (not : (r : RunResult) → r .count ≡ 0 → r .written ≡ 0 → P r)
-    (did : P (ranAs drum out (runFrom (inputs deck out stop) budget (begun drum marks s) 0))) where
-  by-state : (t : Bool) → P (pick t (ranAs drum out (runFrom (inputs deck out stop) budget (begun drum marks s) 0)) (notRun drum marks out s BadState))
+module _ (P : RunResult → Type 0) (c : RunCall) (not : (r : RunResult) → r .count ≡ 0 → r .written ≡ 0 → P r)
+    (did : P (ranAs c (runFrom (inputs c) (c .budget) (begun c) 0))) where
+  by-state : (t : Bool) → P (pick t (ranAs c (runFrom (inputs c) (c .budget) (begun c) 0)) (notRun c BadState))
   by-state true = did
   by-state false = not _ refl refl
 
-  by-deck : (d : Deck) → P (ranOn drum marks deck out s budget stop d)
+  by-deck : (d : Deck) → P (ranOn c d)
   unfolding ranOn
   by-deck (Faulty f) = not _ refl refl
-  by-deck (Good first) = by-state (stateFits (view drum marks) deck first s budget)
+  by-deck (Good behind order problem) = by-state (stateFits (view (c .drum) (c .marks)) (c .deck) behind (c .state) (c .budget))
 
-  by-drum : (t : Bool) → P (pick t (ranOn drum marks deck out s budget stop (deckOf deck)) (notRun drum marks out s BadDrum))
-  by-drum true = by-deck (deckOf deck)
+  by-drum : (t : Bool) → P (pick t (ranOn c (deckOf (c .deck))) (notRun c BadDrum))
+  by-drum true = by-deck (deckOf (c .deck))
   by-drum false = not _ refl refl
 
-  of-run : P (ran drum marks deck out s budget stop)
+  of-run : P (ran c)
   unfolding ran
-  of-run = by-drum (drumFits (length drum) marks (view drum marks))
+  of-run = by-drum (drumFits (length (c .drum)) (c .marks) (view (c .drum) (c .marks)))
 
-ran-count : (drum marks deck out : List ℕ) (s : State) (budget : ℕ) (stop : Bool) → ran drum marks deck out s budget stop .count ≤ budget
+ran-count : (c : RunCall) → ran c .count ≤ c .budget
 unfolding ranAs
-ran-count drum marks deck out s budget stop =
-    of-run (λ (r : RunResult). r .count ≤ budget) drum marks deck out s budget stop (λ r e f. omega (arith, e))
-    (let h : runFrom (inputs deck out stop) budget (begun drum marks s) 0 .count ≤ budget =
-    omega (arith, count-within (inputs deck out stop) budget (begun drum marks s) 0) in h)
+ran-count c =
+    of-run (λ (r : RunResult). r .count ≤ c .budget) c (λ r e f. omega (arith, e))
+    (let h : runFrom (inputs c) (c .budget) (begun c) 0 .count ≤ c .budget = omega (arith, count-within (inputs c) (c .budget) (begun c) 0) in h)
 
 -- ---- what was written is within the room, since the room is as long as before
 
@@ -74,53 +72,45 @@ over-within : (sent out : List ℕ) → length (over sent out) ≡ length out �
 unfolding over
 over-within sent out e = omega (arith, simp (length-append, length-drop) at e)
 
-ran-written : (drum marks deck out : List ℕ) (s : State) (budget : ℕ) (stop : Bool)
-    → length (ran drum marks deck out s budget stop .out) ≡ length out → ran drum marks deck out s budget stop .written ≤ length out
+ran-written : (c : RunCall) → length (ran c .out) ≡ length (c .out) → ran c .written ≤ length (c .out)
 unfolding ranAs
-ran-written drum marks deck out s budget stop =
-    of-run (λ (r : RunResult). length (r .out) ≡ length out → r .written ≤ length out) drum marks deck out s budget stop
-    (λ r e f h. omega (arith, f)) (over-within _ out)
+ran-written c =
+    of-run (λ (r : RunResult). length (r .out) ≡ length (c .out) → r .written ≤ length (c .out)) c (λ r e f h. omega (arith, f))
+    (over-within _ (c .out))
 
 -- ---- room after room
 
-module _ (drum marks deck out : List ℕ) (s : State) (budget : ℕ) (stop : Bool) (n : ℕ) where
-  gone-end : (k : ℕ) → mayRefill (ran drum marks deck out s budget stop .ending) (ran drum marks deck out s budget stop .count) ≡ false
-      → goneOn k drum marks deck out s budget stop n ≡ endedAs (ran drum marks deck out s budget stop) n
+module _ (c : RunCall) (n : ℕ) where
+  gone-end : (k : ℕ) → mayRefill (ran c .ending) (ran c .count) ≡ false → goneOn k c n ≡ endedAs (ran c) n
   unfolding goneOn
   gone-end zero e = refl
   gone-end (suc k) e = rw (e, goneOn)
 
-  gone-more : (k : ℕ) → mayRefill (ran drum marks deck out s budget stop .ending) (ran drum marks deck out s budget stop .count) ≡ true
-      → goneOn (suc k) drum marks deck out s budget stop n
-      ≡ goneOn k (ran drum marks deck out s budget stop .drum) (ran drum marks deck out s budget stop .marks) deck (ran drum marks deck out s budget stop .out) (ran drum marks deck out s budget stop .state) (budget - ran drum marks deck out s budget stop .count) stop (n + ran drum marks deck out s budget stop .count)
+  gone-more : (k : ℕ) → mayRefill (ran c .ending) (ran c .count) ≡ true → goneOn (suc k) c n ≡ goneOn k (refilled c (ran c)) (n + ran c .count)
   unfolding goneOn
   gone-more k e = rw (e, goneOn)
 
 -- one room's run, as it was made: the answer r, and drum, marks and output after it
-module _ (drum marks deck out : List ℕ) (s : State) (budget : ℕ) (stop : Bool) (n f : ℕ) (drum′ marks′ out′ : List ℕ) (r : Ran)
-    (right : RunRight (ran drum marks deck out s budget stop) drum′ marks′ out′ r) where
-  refill-is : (t : Bool) → mayRefill (r .ending) (r .count) ≡ t
-      → mayRefill (ran drum marks deck out s budget stop .ending) (ran drum marks deck out s budget stop .count) ≡ t
+module _ (c : RunCall) {drum marks out : List ℕ} {r : Ran} (right : RunRight (ran c) drum marks out r) where
+  refill-is : (t : Bool) → mayRefill (r .ending) (r .count) ≡ t → mayRefill (ran c .ending) (ran c .count) ≡ t
   refill-is t e = ap₂ mayRefill (sym (right .ending-is)) (sym (right .count-is)) ∙ e
 
-  pub count-fits : r .count ≤ budget
-  count-fits = rw (right .count-is) (ran-count drum marks deck out s budget stop)
+  pub count-fits : r .count ≤ c .budget
+  count-fits = rw (right .count-is) (ran-count c)
 
-  pub written-fits : length out′ ≡ length out → r .written ≤ length out
-  written-fits e = rw (right .written-is) (ran-written drum marks deck out s budget stop (ap length (sym (right .out-is)) ∙ e))
+  pub written-fits : length out ≡ length (c .out) → r .written ≤ length (c .out)
+  written-fits e = rw (right .written-is) (ran-written c (ap length (sym (right .out-is)) ∙ e))
 
-  pub room-full : (w : Whole) → 0 < f → mayRefill (r .ending) (r .count) ≡ true → goneOn f drum marks deck out s budget stop n ≡ w
-      → goneOn (f - 1) drum′ marks′ deck out′ (r .state) (budget - r .count) stop (n + r .count) ≡ w
-  room-full w h e g =
+  pub room-full : (n f : ℕ) (w : Whole) → 0 < f → mayRefill (r .ending) (r .count) ≡ true → goneOn f c n ≡ w
+      → goneOn (f - 1) (callOf drum marks out (c .deck) (r .state) (c .budget - r .count) (c .switches)) (n + r .count) ≡ w
+  room-full n f w h e g =
       rw (right .drum-is, right .marks-are, right .out-is, right .state-is, right .count-is)
-      (sym (gone-more drum marks deck out s budget stop n (f - 1) (refill-is true e))
-      ∙ ap (λ (k : ℕ). goneOn k drum marks deck out s budget stop n) (let z : suc (f - 1) ≡ f = omega arith in z)
-      ∙ g)
+      (sym (gone-more c n (f - 1) (refill-is true e)) ∙ ap (λ (k : ℕ). goneOn k c n) (let z : suc (f - 1) ≡ f = omega arith in z) ∙ g)
 
-  pub run-over : (w : Whole) → mayRefill (r .ending) (r .count) ≡ false → goneOn f drum marks deck out s budget stop n ≡ w
-      → WentOn w drum′ marks′ (record { sent = true; ending = r .ending; count = n + r .count; state = r .state })
-  run-over w e g =
-      let q = sym g ∙ gone-end drum marks deck out s budget stop n f (refill-is false e) in
+  pub run-over : (n f : ℕ) (w : Whole) → mayRefill (r .ending) (r .count) ≡ false → goneOn f c n ≡ w
+      → WentOn w drum marks (record { sent = true; ending = r .ending; count = n + r .count; state = r .state })
+  run-over n f w e g =
+      let q = sym g ∙ gone-end c n f (refill-is false e) in
       record {
         ending-is = right .ending-is ∙ sym (ap (λ (x : Whole). x .ending) q);
         count-is = ap (λ (k : ℕ). n + k) (right .count-is) ∙ sym (ap (λ (x : Whole). x .count) q);

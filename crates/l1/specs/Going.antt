@@ -6,7 +6,7 @@ use mathlib.Core.Bool.{Bool, true, false}
 use lib.Dec.{eqb}
 use Rattle.rules.specs.Words.{pick}
 use Rattle.rules.specs.Numbers.{endingNumber, refusalNumber}
-use Rattle.rules.specs.Running.{RunResult, ran}
+use Rattle.rules.specs.Running.{RunCall, RunResult, ran}
 use Rattle.rules.specs.declared.State.{State}
 use Rattle.rules.specs.declared.Refusal.the-variants.{NoRoom}
 use Rattle.rules.specs.declared.Ending.{Ending}
@@ -29,13 +29,26 @@ pub record Whole : Type 0 where
 abbrev pub endedAs : RunResult → ℕ → Whole
 endedAs x n = record { ending = x .ending; count = n + x .count; state = x .state; drum = x .drum; marks = x .marks }
 
+-- the call that goes on where another was left, in the same room
+abbrev pub refilled : RunCall → RunResult → RunCall
+refilled c x =
+    record {
+      drum = x .drum;
+      marks = x .marks;
+      out = x .out;
+      deck = c .deck;
+      state = x .state;
+      budget = c .budget - x .count;
+      switches = c .switches;
+    }
+
 -- At most k rooms more; each takes an order of the budget at the least.
-unfoldable pub goneOn : ℕ → List ℕ → List ℕ → List ℕ → List ℕ → State → ℕ → Bool → ℕ → Whole
-goneOn zero drum marks deck out s budget stop n = endedAs (ran drum marks deck out s budget stop) n
-goneOn (suc k) drum marks deck out s budget stop n =
-    let x = ran drum marks deck out s budget stop in
+unfoldable pub goneOn : ℕ → RunCall → ℕ → Whole
+goneOn zero c n = endedAs (ran c) n
+goneOn (suc k) c n =
+    let x = ran c in
     elim (mayRefill (x .ending) (x .count)) [
-      | true ↦ goneOn k (x .drum) (x .marks) deck (x .out) (x .state) (budget - x .count) stop (n + x .count)
+      | true ↦ goneOn k (refilled c x) (n + x .count)
       | false ↦ endedAs x n
     ]
 

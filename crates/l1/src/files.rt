@@ -3,7 +3,7 @@ ghost use Rattle.io.specs.Counts.{Counts};
 ghost use Rattle.libc.specs.Io.{Ended};
 ghost use mathlib.Core.Path.{_≡_};
 ghost use lib.ListN.{length};
-ghost use Prim.Native.Nat.{_+_, _≤_};
+ghost use Prim.Native.Nat.{_≤_};
 
 // Whether a file was read, and how many bytes of the room it took.
 pub struct Filled {
@@ -61,7 +61,7 @@ pub fn read_whole(room: &mut [u8], path: &[u8]) -> Filled
 {
     let fd = os::open_read(path);
     if fd < 0 {
-        crate::says::failed(path);
+        says::failed(path);
         return Filled {
             good: false,
             count: 0,
@@ -69,7 +69,7 @@ pub fn read_whole(room: &mut [u8], path: &[u8]) -> Filled
     }
     let x = fill(fd, room);
     if !x.good {
-        crate::says::failed(path);
+        says::failed(path);
     }
     libc::close(fd);
     x
@@ -92,29 +92,16 @@ fn write_out(fd: i32, bytes: &[u8]) -> bool {
 pub fn make(path: &[u8], bytes: &[u8]) -> bool {
     let fd = os::create(path);
     if fd < 0 {
-        crate::says::failed(path);
+        says::failed(path);
         return false;
     }
     libc::fchmod(fd, 0o600);
     if !write_out(fd, bytes) {
-        crate::says::failed(path);
+        says::failed(path);
         os::unlink(path);
         return false;
     }
     true
-}
-
-// The first n bytes of a part are put at a place.
-fn copy(out: &mut [u8], at: usize, part: &[u8], n: usize)
-    requires { ⌜ at + n ≤ length (now out) ⌝ }
-    requires { ⌜ n ≤ length (now part) ⌝ }
-    ensures { λ _. ⌜ length (now (out .exit)) ≡ length (now (out .entry)) ⌝ }
-{
-    let mut i: usize = 0;
-    while i < n {
-        out[at + i] = part[i];
-        i += 1;
-    }
 }
 
 // The smaller of two numbers.
@@ -131,7 +118,7 @@ fn put(out: &mut [u8], at: usize, part: &[u8]) -> usize
 {
     let left = out.len() - at;
     let n = least(part.len(), left);
-    copy(out, at, part, n);
+    bytes::copy(out, at, part, 0, n);
     at + n
 }
 
@@ -147,16 +134,16 @@ fn name_beside(name: &mut [u8], path: &[u8]) -> usize
 fn replace_by(name: &mut [u8], path: &[u8], bytes: &[u8]) -> bool {
     let fd = os::create_temp(name);
     if fd < 0 {
-        crate::says::failed(name);
+        says::failed(name);
         return false;
     }
     if !write_out(fd, bytes) {
-        crate::says::failed(name);
+        says::failed(name);
         os::unlink(name);
         return false;
     }
     if os::rename(name, path) != 0 {
-        crate::says::failed(path);
+        says::failed(path);
         os::unlink(name);
         return false;
     }

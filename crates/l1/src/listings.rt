@@ -4,7 +4,6 @@ ghost use Prim.Native.Nat.{_≤_};
 ghost use lib.ListN.{length};
 use crate::files::fill;
 use crate::machines::hold;
-use crate::machines::is_fit;
 use crate::sessions::empty_drum;
 use crate::sessions::no_marks;
 use crate::telling::send_first;
@@ -113,7 +112,7 @@ fn list_some(room: &mut [u8], lines: &mut [u8], path: &[u8], fd: i32, window: Wi
     let x = fill(fd, &mut room[kept..]);
     let got = x.count;
     if !x.good {
-        crate::says::failed(path);
+        says::failed(path);
         return closed();
     }
     let n = kept + got;
@@ -159,7 +158,7 @@ pub fn list(path: &[u8]) {
     let mut lines = io::buffer();
     let fd = os::open_read(path);
     if fd < 0 {
-        crate::says::failed(path);
+        says::failed(path);
         return;
     }
     list_all(&mut room, &mut lines, path, fd);
@@ -200,7 +199,7 @@ pub fn cells(path: &[u8]) {
         tell_bar(Bar::BadDrum);
         return;
     }
-    if !is_fit(&mut drum, &mut marks) {
+    if !drum::is_fit(&drum, &marks) {
         tell_bar(Bar::BadDrum);
         return;
     }

@@ -1,22 +1,20 @@
 // Machine files: made new, read onto a drum, and replaced. Load and run on them, and their marked cells.
 ghost use mathlib.Core.Path.{_≡_};
 ghost use lib.ListN.{length};
-ghost use Rattle.rules.specs.Drum.{view, drumFits};
-ghost use Rattle.l1.specs.Told.{isOther};
 use crate::files::read_whole;
 use crate::sessions::empty_drum;
 use crate::sessions::go_on;
 use crate::sessions::no_marks;
-use crate::sessions::no_state;
 use crate::telling::tell;
 use crate::telling::tell_bar;
-use crate::words::Options;
-use crate::words::is_given;
 use crate::words::name_at;
+use calls::Options;
+use calls::is_given;
 use rules::Bar;
 use rules::Ending;
 use rules::Loading;
 use rules::State;
+use rules::Switches;
 
 // Whether a machine file could be read, whether it is one, and the state in it.
 pub struct Held {
@@ -67,7 +65,7 @@ fn keep(path: &[u8], drum: &[u64], marks: &[u8], state: State) -> bool {
     if crate::files::replace(path, &bytes) {
         return true;
     }
-    crate::says::kept(path);
+    says::kept(path);
     false
 }
 
@@ -97,7 +95,7 @@ fn load_on(path: &[u8], deck: &[u8], traced: bool) {
 
 // A run on the machine file at path. The cards are sent as the run goes on; the file is replaced before the Z card is sent, so that a Z
 // card says what the file holds.
-fn run_on(path: &[u8], deck: &[u8], budget: u64, stop: bool) {
+fn run_on(path: &[u8], deck: &[u8], budget: u64, switches: Switches) {
     let mut drum = empty_drum();
     let mut marks = no_marks();
     let held = hold(&mut drum, &mut marks, path);
@@ -110,9 +108,17 @@ fn run_on(path: &[u8], deck: &[u8], budget: u64, stop: bool) {
     }
     let before = held.state;
     let mut out = io::large_buffer();
-    let g = go_on(&mut drum, &mut marks, &mut out, deck, before, budget, stop);
+    let g = go_on(
+        &mut drum,
+        &mut marks,
+        &mut out,
+        deck,
+        before,
+        budget,
+        switches,
+    );
     if !g.sent {
-        crate::says::kept(path);
+        says::kept(path);
         return;
     }
     let ending = g.ending;
@@ -122,13 +128,12 @@ fn run_on(path: &[u8], deck: &[u8], budget: u64, stop: bool) {
 
 // After a run on a machine file: it is replaced, and the Z card is sent; or the run was refused at its entry, and its line is sent.
 fn finish(path: &[u8], drum: &[u64], marks: &[u8], ending: Ending, state: State, count: u64) {
-    let location = state.location;
     match ending {
         Ending::NotRun(b) => tell_bar(b),
         Ending::Ran(_) => {
             if keep(path, drum, marks, state) {
-                if !tell(ending, location, count) {
-                    crate::says::replaced(path);
+                if !tell(ending, state, count) {
+                    says::replaced(path);
                 }
             }
         }
@@ -138,7 +143,7 @@ fn finish(path: &[u8], drum: &[u64], marks: &[u8], ending: Ending, state: State,
 // Load on the machine file at path, with the deck that the next word names.
 pub fn load(path: &[u8], options: Options) {
     if crate::files::is_link(path) {
-        crate::says::link(path);
+        says::link(path);
         return;
     }
     let mut name = io::buffer();
@@ -160,7 +165,7 @@ pub fn load(path: &[u8], options: Options) {
 // Run on the machine file at path, with the deck that the next word names.
 pub fn run(path: &[u8], options: Options) {
     if crate::files::is_link(path) {
-        crate::says::link(path);
+        says::link(path);
         return;
     }
     let mut name = io::buffer();
@@ -176,14 +181,17 @@ pub fn run(path: &[u8], options: Options) {
     }
     let k = deck.count;
     let stop = options.stop;
-    run_on(path, &room[..k], options.budget, is_given(stop));
+    let switches = Switches {
+        stop: is_given(stop),
+    };
+    run_on(path, &room[..k], options.budget, switches);
 }
 
 // A new machine file of these cells, with no marks and a state of nine zeros.
 fn make(path: &[u8], drum: &[u64]) {
     let marks = no_marks();
     let mut bytes = file_bytes();
-    file::write_file(&mut bytes, drum, &marks, no_state());
+    file::write_file(&mut bytes, drum, &marks, states::none());
     crate::files::make(path, &bytes);
 }
 
@@ -196,11 +204,11 @@ fn fill_drum(drum: &mut [u64], path: &[u8]) -> bool {
     }
     let n = x.count;
     if 262_144 < n {
-        crate::says::too_long(path);
+        says::too_long(path);
         return false;
     }
     if !file::read_cells(drum, &room[..n]) {
-        crate::says::not_cells(path);
+        says::not_cells(path);
         return false;
     }
     true
@@ -228,28 +236,4 @@ pub fn new(path: &[u8]) {
     }
     let drum = empty_drum();
     make(path, &drum);
-}
-
-// Whether a load was refused for another reason than its drum.
-fn is_other(bar: Bar) -> bool
-    ensures { λ r. ⌜ r ≡ isOther bar ⌝ }
-{
-    match bar {
-        Bar::BadDrum => false,
-        Bar::BadDeck(_) => true,
-        Bar::BadState => true,
-    }
-}
-
-// Whether a drum and its marks pass check 10. A load of an empty deck is refused by it, or else for the deck, and changes nothing.
-pub fn is_fit(drum: &mut [u64], marks: &mut [u8]) -> bool
-    ensures { λ r. ⌜ r ≡ drumFits (length (now (drum .entry))) (now (marks .entry)) (view (now (drum .entry)) (now (marks .entry))) ⌝ }
-    ensures { λ _. ⌜ (now (drum .exit) ≡ now (drum .entry)) × (now (marks .exit) ≡ now (marks .entry)) ⌝ }
-{
-    let x = machine::load(drum, marks, b"", no_state(), false);
-    let loading = x.loading;
-    match loading {
-        Loading::Loaded => false,
-        Loading::NotLoaded(b) => is_other(b),
-    }
 }

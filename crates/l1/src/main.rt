@@ -3,13 +3,12 @@
 mod files;
 mod listings;
 mod machines;
-mod says;
 mod sessions;
 mod telling;
 mod words;
 
-use words::Command;
-use words::Options;
+use calls::Command;
+use calls::Options;
 
 // The command, on the files that the words behind it name.
 fn obey(command: Command, options: Options) {
@@ -34,8 +33,8 @@ fn obey(command: Command, options: Options) {
 fn main() {
     let mut word = io::buffer();
     let n = os::arg(1, &mut word);
-    let command = words::command_of(&word[..n]);
-    if !words::is_known(command) {
+    let command = calls::command_of(&word[..n]);
+    if !calls::is_known(command) {
         says::unknown(&word[..n]);
         return;
     }

@@ -3,16 +3,18 @@ ghost use mathlib.Core.Path.{_≡_};
 ghost use mathlib.Core.Bool.{true};
 ghost use Prim.Native.Nat.{_≤_};
 ghost use lib.ListN.{length};
+ghost use Rattle.machine.specs.Lent.{callOf};
 ghost use Rattle.l1.specs.Going.{mayRefill, goneOn, WentOn};
 use crate::telling::send_first;
 use crate::telling::tell;
 use crate::telling::tell_bar;
-use crate::words::Options;
-use crate::words::is_given;
+use calls::Options;
+use calls::is_given;
 use rules::Ending;
 use rules::Loading;
 use rules::Refusal;
 use rules::State;
+use rules::Switches;
 
 // What a run came to, room after room, and whether all its cards were sent.
 pub struct Gone {
@@ -42,16 +44,16 @@ pub fn go_on(
     deck: &[u8],
     state: State,
     budget: u64,
-    stop: bool,
+    switches: Switches,
 ) -> Gone
-    ensures { λ r. ⌜ (r .sent ≡ true → WentOn (goneOn budget (now (drum .entry)) (now (marks .entry)) (now (deck .entry)) (now (out .entry)) state budget stop 0)
+    ensures { λ r. ⌜ (r .sent ≡ true → WentOn (goneOn budget (callOf (now (drum .entry)) (now (marks .entry)) (now (out .entry)) (now (deck .entry)) state budget switches) 0)
         (now (drum .exit)) (now (marks .exit)) r) ⌝ }
 {
     let mut count: u64 = 0;
     let mut left = budget;
     let mut st = state;
     loop {
-        let x = machine::run(drum, marks, out, deck, st, left, stop);
+        let x = machine::run(drum, marks, out, deck, st, left, switches);
         let ending = x.ending;
         let done = x.count;
         let n = x.written;
@@ -92,25 +94,18 @@ pub fn no_marks() -> [u8; 1000]
     [0; 1000]
 }
 
-// The state of nine zeros.
-pub fn no_state() -> State {
-    State {
-        location: 0,
-        counts: [0, 0, 0],
-        counter: 0,
-        problem: 0,
-        reader: 0,
-        mode: 0,
-        tracing: 0,
-    }
-}
-
 // A deck is loaded on an empty drum and run: its cards, then the Z card.
 fn play(deck: &[u8], options: Options) {
     let mut drum = empty_drum();
     let mut marks = no_marks();
     let traced = options.traced;
-    let x = machine::load(&mut drum, &mut marks, deck, no_state(), is_given(traced));
+    let x = machine::load(
+        &mut drum,
+        &mut marks,
+        deck,
+        states::none(),
+        is_given(traced),
+    );
     let loading = x.loading;
     let state = x.state;
     match loading {
@@ -118,6 +113,9 @@ fn play(deck: &[u8], options: Options) {
         Loading::Loaded => {
             let mut out = io::large_buffer();
             let stop = options.stop;
+            let switches = Switches {
+                stop: is_given(stop),
+            };
             let g = go_on(
                 &mut drum,
                 &mut marks,
@@ -125,12 +123,12 @@ fn play(deck: &[u8], options: Options) {
                 deck,
                 state,
                 options.budget,
-                is_given(stop),
+                switches,
             );
             if g.sent {
                 let ending = g.ending;
                 let after = g.state;
-                tell(ending, after.location, g.count);
+                tell(ending, after, g.count);
             }
         }
     }

@@ -1,20 +1,18 @@
 // What is told on standard output: cards, the Z card, the line of a refused call, and that a deck is good.
-ghost use mathlib.Core.Path.{_≡_};
 ghost use Prim.Native.Nat.{_≤_};
 ghost use lib.ListN.{length};
-ghost use Rattle.io.specs.Counts.{Counts};
-ghost use Rattle.l1.specs.Told.{answerMay, answerBytes, WroteAnswer};
 use libc::STDOUT_FILENO;
 use rules::Bar;
 use rules::Deck;
 use rules::Ending;
+use rules::State;
 
 // Bytes as they are. Where they cannot be written, that is said.
 pub fn send(bytes: &[u8]) -> bool {
     if io::write_all(STDOUT_FILENO, bytes) {
         return true;
     }
-    crate::says::failed(b"standard output");
+    says::failed(b"standard output");
     false
 }
 
@@ -25,45 +23,26 @@ pub fn send_first(room: &[u8], n: usize) -> bool
     send(&room[0..n])
 }
 
-// The Z card of a run, or the line of one that was refused at its entry, over the start of the output. It answers how many bytes that is.
-fn put_answer(out: &mut [u8], ending: Ending, location: usize, count: u64) -> usize
-    ensures { λ r. ⌜ WroteAnswer (answerMay ending location count) (answerBytes ending location count) (now (out .entry)) r (now (out .exit)) ⌝ }
-    ensures { λ r. ⌜ Counts r (now (out .exit)) ⌝ }
-{
-    match ending {
-        Ending::NotRun(b) => {
-            let number = stops::bar_number(b);
-            let place = stops::bar_place(b);
-            card::write_line(out, number, place as usize)
-        }
-        Ending::Ran(o) => {
-            let number = stops::outcome_number(o);
-            let shown = stops::outcome_shown(o);
-            if card::write_stop(out, number, location, count, shown) {
-                24
-            } else {
-                0
-            }
-        }
-    }
-}
-
 // The Z card of a run, or the line of one that was refused at its entry. It answers whether it was written.
-pub fn tell(ending: Ending, location: usize, count: u64) -> bool {
+pub fn tell(ending: Ending, state: State, count: u64) -> bool {
     let mut text = [0u8; 64];
-    let n = put_answer(&mut text, ending, location, count);
+    let n = says::write_closing(&mut text, ending, state, count);
     send(&text[..n])
 }
 
 // The line of a call that was refused at its entry.
 pub fn tell_bar(bar: Bar) {
-    tell(Ending::NotRun(bar), 0, 0);
+    tell(Ending::NotRun(bar), states::none(), 0);
 }
 
 // What the check of a deck found.
 fn tell_deck(found: Deck) {
     match found {
-        Deck::Good(_) => {
+        Deck::Good {
+            behind: _,
+            order: _,
+            problem: _,
+        } => {
             send(b"good");
         }
         Deck::Faulty(f) => tell_bar(Bar::BadDeck(f)),

@@ -4,34 +4,25 @@ use mathlib.Core.Bool.{Bool, true, false}
 use mathlib.Core.List.{List, []}
 use Prim.Native.Nat.{ℕ, _+_, _*_, _≤_}
 use native.Mathlib.Omega.{arith}
-use borrow.Author.Tests.{leb-true, eqb-true}
-use lib.Dec.{leb, eqb}
-use lib.ListN.{length, getD}
+use borrow.Author.Tests.{leb-true}
+use lib.Dec.{leb}
+use lib.ListN.{length}
 use Rattle.rules.specs.Words.{pick}
-use Rattle.rules.specs.Cards.{badFrom, cardOf}
-use Rattle.rules.specs.Listing.{isTrace, traceLines, isStop, stopLine, linesBy, sizeBy, linesOf, sizeOf}
+use Rattle.rules.specs.Cards.{cardOf}
+use Rattle.list.specs.Listing.{isTrace, traceLines, isStop, stopLine, linesBy, sizeBy, linesOf, sizeOf}
 use Rattle.rules.specs.declared.Card.{Card}
 use Rattle.rules.specs.declared.Card.the-variants.{Data, First}
-use Rattle.rules.proofs.Tests.{both-first, both-second}
-use Rattle.rules.proofs.Fields.{word-below}
-use Rattle.rules.proofs.Dues.{all-due, due-fields}
+use Rattle.rules.proofs.Tests.{both-first}
 use Rattle.rules.proofs.CardTrips.{DataRead, data-read, first-read}
 use Rattle.card.specs.Written.{WroteLine}
 use Rattle.list.specs.declared.listing.Lines.{Lines}
-use Rattle.list.specs.Listed.{AreWords, WroteLines, otherLines, otherSize}
+use Rattle.list.specs.Listed.{WroteLines, otherLines, otherSize}
 
 -- ---- trace and stop cards
 
 pub trace-long : (d : List ℕ) → isTrace d ≡ true → 77 ≤ length d
 unfolding isTrace
 trace-long d e = leb-true 77 (length d) (both-first (leb 77 (length d)) _ e)
-
-pub trace-words : (d : List ℕ) → isTrace d ≡ true → AreWords 6 d
-unfolding isTrace
-trace-words d e i l =
-    let t : badFrom 6 d 1 76 ≡ 77 =
-    eqb-true (badFrom 6 d 1 76) 77 (both-second (eqb (getD d 0 0) 88) _ (both-second (leb 77 (length d)) _ e)) in
-    word-below d (8 + 11 * i) (due-fields 6 d (all-due 6 d 1 76 (omega (arith, t))) .words i l)
 
 pub stop-long : (d : List ℕ) → isStop d ≡ true → 24 ≤ length d
 unfolding isStop
@@ -67,10 +58,10 @@ unfolding linesOf sizeOf
 as-card d before after said k e w = subst (λ (x : Card). WroteLines (linesBy x d) (sizeBy x d) before said after) e w
 
 pub data-fits : (d : List ℕ) {number location n problem size : ℕ} → cardOf d ≡ Data number location n problem size
-    → (11 + 11 * n ≤ length d) × ((location + n ≤ 1000) × AreWords n d)
+    → (11 + 11 * n ≤ length d) × (location + n ≤ 1000)
 data-fits d {number} {location} {n} {problem} {size} e =
     let r : DataRead d number location n problem size = data-read d number location n problem size e in
-    (omega (arith, r .long, r .whole), (r .upto, λ i l. word-below d (8 + 11 * i) (r .fields .words i l)))
+    (omega (arith, r .long, r .whole), r .upto)
 
 pub first-fits : (d : List ℕ) {order problem : ℕ} → cardOf d ≡ First order problem → 7 ≤ length d
 first-fits d {order} {problem} e = first-read d order problem e .whole

@@ -5,8 +5,9 @@ use Prim.Native.Nat.{ℕ, _≤_}
 use native.Mathlib.Omega.{arith}
 use lib.ListN.{length}
 use Rattle.rules.specs.Running.{over}
-use Rattle.card.specs.Written.{splice, WroteLine}
-use Rattle.card.proofs.Splices.{splice-start}
+use Rattle.bytes.specs.Put.{splice}
+use Rattle.card.specs.Written.{WroteLine}
+use Rattle.bytes.proofs.Splices.{splice-start}
 use Rattle.card.proofs.Writes.{whole-line}
 
 pub nothing : (line before : List ℕ) → line ≡ [] → WroteLine line before 0 before

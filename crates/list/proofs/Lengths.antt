@@ -9,28 +9,14 @@ use lib.ListN.{length, take, drop, length-append}
 use Rattle.rules.specs.Words.{pick, firstDigit, aIn}
 use Rattle.rules.specs.Bytes.{bytes}
 use Rattle.rules.specs.Cards.{digits, width, wordIn}
-use Rattle.rules.specs.Codes.{Row, codes, rowOf, codeIn}
-use Rattle.rules.specs.Listing.{aText, orderLine, cellLine, headLine, cellLines, dataLines, firstLine, shownLines, traceLines, stopLine, badLine}
+use Rattle.rules.specs.Codes.{codeIn}
+use Rattle.list.specs.Listing.{aText, orderLine, cellLine, headLine, cellLines, dataLines, firstLine, shownLines, traceLines, stopLine, badLine}
 use Rattle.rules.proofs.Digits.{length-digits}
 use Rattle.rules.proofs.Fields.{length-word}
-use Rattle.list.proofs.Joins.{length-field}
-use Rattle.list.proofs.Tables.{name-ten}
+use Rattle.bytes.proofs.Joins.{length-field}
+use Rattle.codes.proofs.Names.{name-ten}
 
--- a row is one of the table or right behind it
-row-within : (k : ℕ) (rs : List Row) → rowOf k rs ≤ length rs
-unfolding rowOf
-row-within k [] = omega arith
-row-within k (r ∷ rs) = by-test (eqb k (r .code)) (row-within k rs)
-  where
-    by-test : (t : Bool) → rowOf k rs ≤ length rs → pick t 0 (suc (rowOf k rs)) ≤ suc (length rs)
-    by-test true h = omega arith
-    by-test false h = omega arith
-
-row-small : (k : ℕ) → rowOf k codes ≤ 36
-unfolding codes
-row-small k = row-within k codes
-
-length-a : (w : ℕ) → length (aText w) ≡ 3
+pub length-a : (w : ℕ) → length (aText w) ≡ 3
 unfolding bytes
 length-a w = by-test (eqb (firstDigit w) 0)
   where
@@ -41,7 +27,7 @@ length-a w = by-test (eqb (firstDigit w) 0)
 pub length-order : (label : List ℕ) (w : ℕ) → length (orderLine label w) ≡ length label + 37
 unfolding orderLine bytes
 length-order label w =
-    simp (length-append, length-word w, name-ten (rowOf (codeIn w) codes) (row-small (codeIn w)), length-a w, length-digits) (omega arith)
+    simp (length-append, length-word w, name-ten (codeIn w), length-a w, length-digits) (omega arith)
 
 pub length-cell : (address w : ℕ) → length (cellLine address w) ≡ 44
 unfolding cellLine digits bytes

@@ -1,9 +1,6 @@
 pub mod Joins
-pub mod Searches
-pub mod Tables
 pub mod Lengths
-pub mod Readings
 pub mod Endings
 pub mod Answers
-pub mod Numerals
+pub mod Examples
 pub mod OneAnswer

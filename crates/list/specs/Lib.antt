@@ -1,2 +1,3 @@
-pub mod Rows
+pub mod Listing
+pub mod Examples
 pub mod Listed

@@ -2,12 +2,12 @@
 ghost use mathlib.Core.Path.{_≡_};
 ghost use Prim.Native.Nat.{_+_, _*_, _≤_};
 ghost use lib.ListN.{length};
-ghost use Rattle.rules.specs.Listing.{headLine, cellLines, dataLines, firstLine};
-ghost use Rattle.card.specs.Written.{splice, WroteLine};
-ghost use Rattle.list.specs.Listed.{AreWords};
+ghost use Rattle.list.specs.Listing.{headLine, cellLines, dataLines, firstLine};
+ghost use Rattle.bytes.specs.Put.{splice};
+ghost use Rattle.card.specs.Written.{WroteLine};
 use crate::cells::put_cell;
-use crate::parts::copy;
 use crate::parts::put;
+use bytes::put_byte;
 
 // The first line of a data or trace card.
 pub(crate) fn put_head(out: &mut [u8], title: &[u8], rest: &[u8], back: usize)
@@ -20,14 +20,13 @@ pub(crate) fn put_head(out: &mut [u8], title: &[u8], rest: &[u8], back: usize)
     put(out, 0, title, rest, 1, 4);
     put(out, 10, b"  at ", rest, 5, 3);
     put(out, 18, b"  problem ", rest, back, 3);
-    copy(out, 31, b"\n", 0, 1);
+    put_byte(out, 31, b'\n');
 }
 
 // The lines of the first n words, behind the first line.
 fn put_cells(out: &mut [u8], rest: &[u8], location: usize, n: usize)
     requires { ⌜ 32 + 44 * n ≤ length (now out) ⌝ }
     requires { ⌜ location + n ≤ 1000 ⌝ }
-    requires { ⌜ AreWords n (now rest) ⌝ }
     ensures { λ _. ⌜ now (out .exit) ≡ splice 32 (cellLines (now (rest .entry)) location n) (now (out .entry)) ⌝ }
 {
     let mut i: usize = 0;
@@ -42,7 +41,6 @@ fn put_cells(out: &mut [u8], rest: &[u8], location: usize, n: usize)
 pub(crate) fn write_data(out: &mut [u8], rest: &[u8], location: usize, n: usize) -> usize
     requires { ⌜ 11 + 11 * n ≤ length (now rest) ⌝ }
     requires { ⌜ location + n ≤ 1000 ⌝ }
-    requires { ⌜ AreWords n (now rest) ⌝ }
     ensures { λ r. ⌜ WroteLine (dataLines (now (rest .entry)) location n) (now (out .entry)) r (now (out .exit)) ⌝ }
 {
     let size = 32 + 44 * n;
@@ -62,7 +60,7 @@ fn put_first(out: &mut [u8], rest: &[u8])
 {
     put(out, 0, b"first order ", rest, 1, 3);
     put(out, 15, b"     problem ", rest, 4, 3);
-    copy(out, 31, b"\n", 0, 1);
+    put_byte(out, 31, b'\n');
 }
 
 pub(crate) fn write_first(out: &mut [u8], rest: &[u8]) -> usize

@@ -2,79 +2,74 @@
 ghost use mathlib.Core.Path.{_≡_};
 ghost use mathlib.Core.List.{_++_};
 ghost use Prim.Native.Nat.{_+_, _≤_};
-ghost use lib.Dec.{eqb};
 ghost use lib.ListN.{length};
-ghost use Rattle.rules.specs.Words.{pick, firstDigit};
 ghost use Rattle.rules.specs.Bytes.{bytes};
-ghost use Rattle.rules.specs.Cards.{stopCard};
-ghost use Rattle.rules.specs.Listing.{orderLine, cellLine, cellShown};
-ghost use Rattle.card.specs.Written.{splice, WroteLine};
-ghost use Rattle.list.specs.Listed.{fieldsIn};
-use crate::codes::put_name;
-use crate::codes::row_of;
-use crate::parts::copy;
-use crate::parts::put;
+ghost use Rattle.rules.specs.Cards.{digits};
+ghost use Rattle.bytes.specs.Put.{splice};
+ghost use Rattle.card.specs.Written.{WroteLine};
+ghost use Rattle.list.specs.Listing.{nameOf, aText, orderLine, cellLine, cellShown};
+use bytes::put_byte;
+use bytes::put_field;
+use bytes::put_run;
+use bytes::put_word;
 
-// The digits of an address and a word: the bytes of a stop card that shows them, from which lines take theirs, and three blanks.
-fn set_up(address: usize, w: u64) -> [u8; 27]
-    requires { ⌜ address ≤ 999 ⌝ }
-    requires { ⌜ w ≤ 19999999999 ⌝ }
-    ensures { λ r. ⌜ r ≡ stopCard 0 address 0 w ++ bytes "   " ⌝ }
+// Two blanks at place a, and the name of a word's code behind them.
+fn put_name(out: &mut [u8], a: usize, w: u64)
+    requires { ⌜ a + 12 ≤ length (now out) ⌝ }
+    ensures { λ _. ⌜ now (out .exit) ≡ splice a (bytes "  " ++ nameOf w) (now (out .entry)) ⌝ }
 {
-    let mut set = [b' '; 27];
-    card::write_stop(&mut set, 0, address, 0, w);
-    set
+    let code = codes::code_of(w);
+    let name = codes::name_of(code);
+    put_run(out, a, b"  ");
+    put_run(out, a + 2, &name);
 }
 
-// Where the A-address of a word stands there: at the blanks where O1 is 0.
-fn place_of_a(w: u64) -> usize
-    ensures { λ r. ⌜ (r ≡ pick (eqb (firstDigit w) 0) 24 15) × (r ≤ 24) ⌝ }
+// Two blanks at place a, and the A-address of a word behind them: three blanks more where O1 is 0.
+fn put_a(out: &mut [u8], a: usize, w: u64)
+    requires { ⌜ a + 5 ≤ length (now out) ⌝ }
+    ensures { λ _. ⌜ now (out .exit) ≡ splice a (bytes "  " ++ aText w) (now (out .entry)) ⌝ }
 {
-    if w % 10_000_000_000 / 1_000_000_000 == 0 {
-        return 24;
+    let x = w % 10_000_000_000;
+    if x / 1_000_000_000 == 0 {
+        put_run(out, a, b"     ");
+        return;
     }
-    15
+    put_run(out, a, b"  ");
+    put_field(out, a + 2, 3, x / 1_000_000 % 1000);
 }
 
-// A label at place a, and behind it the word and addresses that are set up, with the name of a row.
-fn put_fields(out: &mut [u8], a: usize, label: &[u8], set: &[u8], row: usize, from: usize)
-    requires { ⌜ a + length (now label) + 37 ≤ length (now out) ⌝ }
-    requires { ⌜ length (now set) ≡ 27 ⌝ }
-    requires { ⌜ row ≤ 36 ⌝ }
-    requires { ⌜ from ≤ 24 ⌝ }
-    ensures { λ _. ⌜ now (out .exit) ≡ splice a (fieldsIn (now (label .entry)) (now (set .entry)) row from) (now (out .entry)) ⌝ }
+// A blank at place a, and an address behind it.
+fn put_address(out: &mut [u8], a: usize, address: u64)
+    requires { ⌜ a + 4 ≤ length (now out) ⌝ }
+    ensures { λ _. ⌜ now (out .exit) ≡ splice a (bytes " " ++ digits 3 address) (now (out .entry)) ⌝ }
 {
-    let p = a + label.len();
-    let end = p + 36;
-    put(out, a, label, set, 13, 11);
-    put_name(out, p + 11, row);
-    put(out, p + 23, b"  ", set, from, 3);
-    put(out, p + 28, b" ", set, 18, 3);
-    put(out, p + 32, b" ", set, 21, 3);
-    copy(out, end, b"\n", 0, 1);
+    put_byte(out, a, b' ');
+    put_field(out, a + 1, 3, address);
 }
 
 // A label at place a, and behind it a word with its name and addresses.
 pub(crate) fn put_order(out: &mut [u8], a: usize, label: &[u8], w: u64)
     requires { ⌜ a + length (now label) + 37 ≤ length (now out) ⌝ }
-    requires { ⌜ w ≤ 19999999999 ⌝ }
     ensures { λ _. ⌜ now (out .exit) ≡ splice a (orderLine (now (label .entry)) w) (now (out .entry)) ⌝ }
 {
-    let set = set_up(0, w);
-    let row = row_of(w);
-    let from = place_of_a(w);
-    put_fields(out, a, label, &set, row, from);
+    let p = a + label.len();
+    let x = w % 10_000_000_000;
+    put_run(out, a, label);
+    put_word(out, p, w);
+    put_name(out, p + 11, w);
+    put_a(out, p + 23, w);
+    put_address(out, p + 28, x / 1000 % 1000);
+    put_address(out, p + 32, x % 1000);
+    put_byte(out, p + 36, b'\n');
 }
 
 // The line of one cell, at place a.
 pub(crate) fn put_cell(out: &mut [u8], a: usize, address: usize, w: u64)
     requires { ⌜ a + 44 ≤ length (now out) ⌝ }
-    requires { ⌜ address ≤ 999 ⌝ }
-    requires { ⌜ w ≤ 19999999999 ⌝ }
     ensures { λ _. ⌜ now (out .exit) ≡ splice a (cellLine address w) (now (out .entry)) ⌝ }
 {
-    let set = set_up(address, w);
-    put(out, a, b"  ", &set, 4, 3);
+    put_run(out, a, b"  ");
+    put_field(out, a + 2, 3, address as u64);
     put_order(out, a + 5, b"  ", w);
 }
 

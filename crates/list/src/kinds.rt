@@ -1,7 +1,7 @@
 // Which of the cards that stand in no deck is at the start of some bytes.
 ghost use mathlib.Core.Path.{_≡_};
 ghost use Rattle.rules.specs.Cards.{isSign};
-ghost use Rattle.rules.specs.Listing.{isTrace, isStop};
+ghost use Rattle.list.specs.Listing.{isTrace, isStop};
 
 // Whether a whole trace card is there.
 pub(crate) fn is_trace(rest: &[u8]) -> bool

@@ -1,7 +1,6 @@
 // Cards and cells as lines that people read. Each function that is shown here takes any bytes and any numbers.
 mod cards;
 mod cells;
-mod codes;
 mod kinds;
 mod listing;
 mod parts;

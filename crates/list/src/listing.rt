@@ -1,5 +1,5 @@
 // The lines of the card at the start of some bytes.
-ghost use Rattle.rules.specs.Listing.{linesOf, sizeOf};
+ghost use Rattle.list.specs.Listing.{linesOf, sizeOf};
 ghost use Rattle.list.specs.Listed.{WroteLines, otherLines, otherSize};
 use crate::cards::write_data;
 use crate::cards::write_first;

@@ -2,10 +2,11 @@
 ghost use mathlib.Core.Path.{_≡_};
 ghost use Prim.Native.Nat.{_≤_};
 ghost use lib.ListN.{length};
-ghost use Rattle.rules.specs.Listing.{stopLine};
-ghost use Rattle.card.specs.Written.{splice, WroteLine};
-use crate::parts::copy;
+ghost use Rattle.list.specs.Listing.{stopLine};
+ghost use Rattle.bytes.specs.Put.{splice};
+ghost use Rattle.card.specs.Written.{WroteLine};
 use crate::parts::put;
+use bytes::put_byte;
 
 fn put_stop(out: &mut [u8], rest: &[u8])
     requires { ⌜ 54 ≤ length (now out) ⌝ }
@@ -16,7 +17,7 @@ fn put_stop(out: &mut [u8], rest: &[u8])
     put(out, 8, b"    at ", rest, 3, 4);
     put(out, 19, b"  orders ", rest, 7, 6);
     put(out, 34, b"  shows ", rest, 13, 11);
-    copy(out, 53, b"\n", 0, 1);
+    put_byte(out, 53, b'\n');
 }
 
 pub(crate) fn write_stop(out: &mut [u8], rest: &[u8]) -> usize

@@ -16,6 +16,4 @@ pub mod CardTrips
 pub mod Decks
 pub mod Results
 pub mod States
-pub mod Files
-pub mod Texts
 pub mod Agreed

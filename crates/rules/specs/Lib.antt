@@ -13,7 +13,4 @@ pub mod Orders
 pub mod Running
 pub mod Loads
 pub mod Sheet
-pub mod Listing
 pub mod States
-pub mod Files
-pub mod Texts

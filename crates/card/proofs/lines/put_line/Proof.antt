@@ -1,15 +1,14 @@
 -- `card::put_line` meets its contract: the space stands right behind the number, and the place behind the space. Assumes nothing.
-use mathlib.Core.List.{List, [], _∷_, _++_}
-use mathlib.Core.Path.{_≡_, ap, _∙_}
+use mathlib.Core.List.{List, [], _∷_}
+use mathlib.Core.Path.{refl, ap, _∙_}
 use Prim.Native.Nat.{ℕ, _+_}
 use native.Mathlib.Omega.{arith}
 use borrow.Author.Needs.{needs}
-use lib.ListN.{length, length-append}
 use lib.Seq.{append-snoc}
 use Rattle.rules.specs.Cards.{digits}
 use Rattle.rules.specs.Running.{over}
 use Rattle.rules.proofs.Digits.{length-digits}
-use Rattle.card.proofs.Splices.{splice-start, grown}
+use Rattle.bytes.proofs.Joins.{put-begin, put-more, put-over}
 use Rattle.card.proofs.lines.put_line.Statement.{statement}
 use Rattle.card.proofs.lines.put_line.Tie as tie
 
@@ -30,18 +29,17 @@ same-length c = search needs
 
 returns : tie.Need-returns
 returns c =
-    let a = c .before .before .before .before .before .before .before .before .before .before .before .before .before .args in
-    let d = a .out .now in
-    let room = c .before .before .before .before .before .before .before .before .before .before .before .before .before .pre in
-    let p₁ : List ℕ = digits (a .a) (a .number) in
-    let n₁ : length p₁ ≡ a .a = length-digits (a .a) (a .number) in
-    let p₂ : List ℕ = p₁ ++ (32 ∷ []) in
-    let n₂ : length p₂ ≡ a .a + 1 = length-append p₁ (32 ∷ []) ∙ ap (λ (k : ℕ). k + 1) n₁ in
-    let last : List ℕ = digits (a .b) (a .place) in
-    let e₁ : c .before .before .before .before .before .before .before .before .before .before .put-field .last .0 ≡ over p₁ d = c .before .before .before .before .before .before .before .before .before .before .put-field .ensures ∙ splice-start p₁ d in
-    let e₂ : c .before .before .before .before .before .before .put-byte .last .0 ≡ over p₂ d = grown d p₁ (32 ∷ []) (a .a) e₁ (c .before .before .before .before .before .before .put-byte .ensures) n₁ (omega (arith, room)) in
-    grown d p₂ last (a .a + 1) e₂ (c .before .before .put-field2 .ensures) n₂ (omega (arith, room, length-digits (a .b) (a .place)))
-    ∙ ap (λ (l : List ℕ). over l d) (append-snoc p₁ 32 last)
+    let start : tie.Start = search in
+    let number : tie.After-put-field = search in
+    let space : tie.After-put-byte = search in
+    let place : tie.After-put-field2 = search in
+    let a = start .args in
+    let s : List ℕ = digits (a .a) (a .number) in
+    let t : List ℕ = digits (a .b) (a .place) in
+    let h₁ = put-begin {p = s} {e = a .a} (a .a) (number .put-field .ensures) (length-digits (a .a) (a .number)) (omega arith) (omega (arith, start .pre)) in
+    let h₂ = put-more {e = a .a + 1} (32 ∷ []) 1 h₁ (space .put-byte .ensures) refl refl (omega (arith, start .pre)) in
+    put-over (put-more {e = a .a + 1 + a .b} t (a .b) h₂ (place .put-field2 .ensures) (length-digits (a .b) (a .place)) refl (start .pre))
+    ∙ ap (λ (l : List ℕ). over l (a .out .now)) (append-snoc s 32 t)
 
 pub put-line-spec : {M : Type 1} → statement M
 put-line-spec =

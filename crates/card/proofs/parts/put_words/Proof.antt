@@ -1,27 +1,28 @@
 -- `card::put_words` meets its contract. The loop's invariant: the words passed stand in the output, and all else is as it was.
 -- Assumes nothing.
 use mathlib.Core.List.{List}
-use mathlib.Core.Path.{_≡_, refl, sym, ap, _∙_}
+use mathlib.Core.Path.{_≡_, refl, sym, ap, subst, _∙_}
 use Prim.Native.Nat.{ℕ, _+_, _*_, _-_, _≤_}
 use native.Mathlib.Omega.{arith}
 use lib.ListN.{length, getD, take}
-use lib.Seq.{length-take-le}
 use Rattle.rules.specs.Cards.{wordBytes, wordsBytes}
-use Rattle.rules.proofs.Fields.{length-word, length-words, words-more}
-use Rattle.card.specs.Written.{splice}
-use Rattle.card.proofs.Splices.{splice-more, splice-none}
+use Rattle.rules.proofs.Fields.{length-word, words-more}
+use Rattle.bytes.specs.Put.{splice}
+use Rattle.bytes.proofs.Joins.{Put, put-more, put-nothing}
 use Rattle.card.proofs.parts.put_words.Statement.{statement}
 use Rattle.card.proofs.parts.put_words.Tie as tie
 
 abbrev Inv-loop : tie.InvT-loop
-Inv-loop out₀ a words n i₀ out i = (i ≤ n) × (length out ≡ length out₀) × (out ≡ splice a (wordsBytes (take i words)) out₀)
+Inv-loop out₀ a words n i₀ out i = (i ≤ n) × (length out ≡ length out₀) × Put out₀ a (wordsBytes (take i words)) (a + 11 * i) out
 
 abbrev μ-loop : tie.MeasureT-loop
 μ-loop out₀ a words n i₀ out i = n - i
 
 loop-holds : tie.Need-loop-holds Inv-loop μ-loop
 unfolding wordsBytes
-loop-holds c = (omega arith, refl, splice-none (c .before .before .args .a) (c .before .before .args .out .now))
+loop-holds c =
+    let start : tie.Start Inv-loop μ-loop = search in
+    (omega arith, refl, put-nothing (start .args .out .now) (omega arith) (omega (arith, start .pre)))
 
 mul-w : tie.Need-mul-w Inv-loop μ-loop
 mul-w c = omega arith
@@ -36,7 +37,7 @@ add-put-word : tie.Need-add-put-word Inv-loop μ-loop
 add-put-word c = omega arith
 
 put-word-requires : tie.Need-put-word-requires Inv-loop μ-loop
-put-word-requires c κs = omega arith
+put-word-requires c κs = tt
 
 add-i : tie.Need-add-i Inv-loop μ-loop
 add-i c = omega arith
@@ -46,18 +47,18 @@ loop-less c = omega arith
 
 loop-again : tie.Need-loop-again Inv-loop μ-loop
 loop-again c =
-    let a = c .before .before .before .before .before .before .before .before .before .args in
-    let l = c .before .before .before .before .before .before .loop in
-    let i = l .i in
+    let start : tie.Start Inv-loop μ-loop = search in
+    let loop : tie.At-loop Inv-loop μ-loop = search in
+    let word : tie.After-put-word Inv-loop μ-loop = search in
+    let a = start .args in
+    let l = loop .loop in
     let ws = a .words .now in
-    let w = getD ws i 0 in
-    let t : length (take i ws) ≡ i = length-take-le i ws (omega arith) in (
+    let w = getD ws (l .i) 0 in
+    let e = a .a + 11 * (l .i + 1) in (
       omega arith,
-      c .before .before .put-word .kept .0 ∙ l .inv .1,
-      c .before .before .put-word .ensures
-          ∙ ap (splice (a .a + 11 * i) (wordBytes w)) (l .inv .2)
-          ∙ splice-more (a .a) (a .a + 11 * i) (wordsBytes (take i ws)) (wordBytes w) (a .out .now) (omega (arith, length-words (take i ws))) (omega (arith, length-word w, c .before .before .before .before .before .before .before .before .before .pre))
-          ∙ ap (λ (s : List ℕ). splice (a .a) s (a .out .now)) (sym (words-more ws i (omega arith))),
+      word .put-word .kept .0 ∙ l .inv .1,
+      subst (λ (s : List ℕ). Put (a .out .now) (a .a) s e (word .put-word .last .0)) (sym (words-more ws (l .i) (omega arith)))
+          (put-more (wordBytes w) 11 (l .inv .2) (word .put-word .ensures) (length-word w) (omega arith) (omega (arith, start .pre))),
     )
 
 same-length : tie.Need-same-length Inv-loop μ-loop
@@ -65,9 +66,11 @@ same-length c = c .before .loop .inv .1
 
 returns : tie.Need-returns Inv-loop μ-loop
 returns c =
-    let a = c .before .before .before .before .args in
-    let e : c .before .loop .i ≡ a .n = omega arith in
-    c .before .loop .inv .2 ∙ ap (λ (k : ℕ). splice (a .a) (wordsBytes (take k (a .words .now))) (a .out .now)) e
+    let start : tie.Start Inv-loop μ-loop = search in
+    let loop : tie.At-loop Inv-loop μ-loop = search in
+    let a = start .args in
+    let e : loop .loop .i ≡ a .n = omega arith in
+    loop .loop .inv .2 .same ∙ ap (λ (k : ℕ). splice (a .a) (wordsBytes (take k (a .words .now))) (a .out .now)) e
 
 pub put-words-spec : {M : Type 1} → statement M
 put-words-spec =

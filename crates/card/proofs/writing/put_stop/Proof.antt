@@ -1,13 +1,12 @@
 -- `card::put_stop` meets its contract: each of the five fields stands right behind the one before. Assumes nothing.
-use mathlib.Core.List.{List, [], _∷_, _++_}
-use mathlib.Core.Path.{_≡_, refl, _∙_}
-use Prim.Native.Nat.{ℕ}
+use mathlib.Core.List.{[], _∷_}
+use mathlib.Core.Path.{refl}
 use native.Mathlib.Omega.{arith}
 use borrow.Author.Needs.{needs}
 use Rattle.rules.specs.Cards.{digits, wordBytes, stopCard}
-use Rattle.rules.specs.Running.{over}
+use Rattle.rules.proofs.Digits.{length-digits}
 use Rattle.rules.proofs.Fields.{length-word}
-use Rattle.card.proofs.Splices.{splice-start, grown}
+use Rattle.bytes.proofs.Joins.{put-begin, put-more, put-over}
 use Rattle.card.proofs.writing.put_stop.Statement.{statement}
 use Rattle.card.proofs.writing.put_stop.Tie as tie
 
@@ -30,20 +29,20 @@ same-length : tie.Need-same-length
 same-length c = search needs
 
 returns : tie.Need-returns
-unfolding stopCard digits
+unfolding stopCard
 returns c =
-    let a = c .before .before .before .before .before .before .before .before .before .before .before .before .before .before .before .before .before .before .before .before .before .args in
-    let d = a .out .now in
-    let room = c .before .before .before .before .before .before .before .before .before .before .before .before .before .before .before .before .before .before .before .before .before .pre in
-    let p₁ : List ℕ = 90 ∷ [] in
-    let p₂ : List ℕ = p₁ ++ digits 2 (a .number) in
-    let p₃ : List ℕ = p₂ ++ digits 4 (a .location) in
-    let p₄ : List ℕ = p₃ ++ digits 6 (a .count) in
-    let e₁ : c .before .before .before .before .before .before .before .before .before .before .before .before .before .before .before .before .before .before .put-byte .last .0 ≡ over p₁ d = c .before .before .before .before .before .before .before .before .before .before .before .before .before .before .before .before .before .before .put-byte .ensures ∙ splice-start p₁ d in
-    let e₂ : c .before .before .before .before .before .before .before .before .before .before .before .before .before .before .put-field .last .0 ≡ over p₂ d = grown d p₁ (digits 2 (a .number)) 1 e₁ (c .before .before .before .before .before .before .before .before .before .before .before .before .before .before .put-field .ensures) refl (omega (arith, room)) in
-    let e₃ : c .before .before .before .before .before .before .before .before .before .before .put-field2 .last .0 ≡ over p₃ d = grown d p₂ (digits 4 (a .location)) 3 e₂ (c .before .before .before .before .before .before .before .before .before .before .put-field2 .ensures) refl (omega (arith, room)) in
-    let e₄ : c .before .before .before .before .before .before .put-field3 .last .0 ≡ over p₄ d = grown d p₃ (digits 6 (a .count)) 7 e₃ (c .before .before .before .before .before .before .put-field3 .ensures) refl (omega (arith, room)) in
-    grown d p₄ (wordBytes (a .shown)) 13 e₄ (c .before .before .put-word .ensures) refl (omega (arith, room, length-word (a .shown)))
+    let start : tie.Start = search in
+    let kind : tie.After-put-byte = search in
+    let number : tie.After-put-field = search in
+    let location : tie.After-put-field2 = search in
+    let count : tie.After-put-field3 = search in
+    let shown : tie.After-put-word = search in
+    let a = start .args in
+    let h₁ = put-begin {p = 90 ∷ []} {e = 1} 1 (kind .put-byte .ensures) refl refl (omega (arith, start .pre)) in
+    let h₂ = put-more {e = 3} (digits 2 (a .number)) 2 h₁ (number .put-field .ensures) (length-digits 2 (a .number)) refl (omega (arith, start .pre)) in
+    let h₃ = put-more {e = 7} (digits 4 (a .location)) 4 h₂ (location .put-field2 .ensures) (length-digits 4 (a .location)) refl (omega (arith, start .pre)) in
+    let h₄ = put-more {e = 13} (digits 6 (a .count)) 6 h₃ (count .put-field3 .ensures) (length-digits 6 (a .count)) refl (omega (arith, start .pre)) in
+    put-over (put-more {e = 24} (wordBytes (a .shown)) 11 h₄ (shown .put-word .ensures) (length-word (a .shown)) refl (start .pre))
 
 pub put-stop-spec : {M : Type 1} → statement M
 put-stop-spec =

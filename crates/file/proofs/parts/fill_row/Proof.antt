@@ -5,9 +5,9 @@ use Prim.Native.Nat.{ℕ, _*_, _-_, _≤_}
 use native.Mathlib.Omega.{arith}
 use lib.ListN.{length, take, drop, length-set}
 use lib.Seq.{paste, paste-zero, drop-drop}
-use Rattle.rules.specs.Files.{numberOf, rowIn}
-use Rattle.rules.proofs.Files.{length-in, in-at}
-use Rattle.file.proofs.Copies.{fill-more, fill-end}
+use Rattle.file.specs.Files.{numberOf, rowIn}
+use Rattle.file.proofs.Files.{length-in, in-at}
+use Rattle.bytes.proofs.Copies.{fill-more, fill-end}
 use Rattle.file.proofs.parts.fill_row.Statement.{statement}
 use Rattle.file.proofs.parts.fill_row.Tie as tie
 

@@ -7,8 +7,8 @@ use native.Mathlib.Nat.{pow-suc, pow-le-pow-right}
 use native.Mathlib.Omega.{arith}
 use lib.ListN.{length, getD, take, drop, length-drop, drop-of-length-le}
 use lib.Seq.{length-take-le, getD-take, getD-drop}
-use Rattle.rules.specs.Files.{numberOf}
-use Rattle.rules.proofs.Files.{number-more}
+use Rattle.file.specs.Files.{numberOf}
+use Rattle.file.proofs.Files.{number-more}
 use Rattle.file.proofs.parts.number_at.Statement.{statement}
 use Rattle.file.proofs.parts.number_at.Tie as tie
 

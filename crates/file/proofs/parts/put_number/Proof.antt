@@ -5,9 +5,9 @@ use Prim.Native.Nat.{ℕ, _-_, _%_, _/_, _≤_}
 use native.Mathlib.Omega.{arith}
 use lib.ListN.{length, length-set}
 use lib.Seq.{paste, paste-zero}
-use Rattle.rules.specs.Files.{lowBytes}
-use Rattle.rules.proofs.Files.{length-low, low-at, shifted, shifted-next}
-use Rattle.file.proofs.Copies.{copy-more, copy-end}
+use Rattle.file.specs.Files.{lowBytes}
+use Rattle.file.proofs.Files.{length-low, low-at, shifted, shifted-next}
+use Rattle.bytes.proofs.Copies.{copy-more, copy-end}
 use Rattle.file.proofs.parts.put_number.Statement.{statement}
 use Rattle.file.proofs.parts.put_number.Tie as tie
 

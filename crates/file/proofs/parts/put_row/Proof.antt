@@ -5,10 +5,10 @@ use Prim.Native.Nat.{ℕ, _+_, _*_, _-_, _≤_}
 use native.Mathlib.Omega.{arith}
 use lib.ListN.{length, getD, take}
 use lib.Seq.{length-take-le, take-all}
-use Rattle.rules.specs.Files.{lowBytes, rowBytes}
-use Rattle.rules.proofs.Files.{length-low, length-row, row-more}
-use Rattle.card.specs.Written.{splice}
-use Rattle.card.proofs.Splices.{splice-more, splice-none}
+use Rattle.file.specs.Files.{lowBytes, rowBytes}
+use Rattle.file.proofs.Files.{length-low, length-row, row-more}
+use Rattle.bytes.specs.Put.{splice}
+use Rattle.bytes.proofs.Splices.{splice-more, splice-none}
 use Rattle.file.proofs.parts.put_row.Statement.{statement}
 use Rattle.file.proofs.parts.put_row.Tie as tie
 

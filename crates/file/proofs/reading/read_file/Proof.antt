@@ -1,9 +1,11 @@
 -- `file::read_file` meets its contract: it ends at a wrong length, or all is read. Assumes nothing.
-use mathlib.Core.Path.{refl, ap, _∙_}
+use mathlib.Core.Path.{_≡_, refl, sym, ap, _∙_}
 use Prim.Native.Nat.{ℕ}
 use borrow.Author.Needs.{needs}
-use lib.ListN.{take, drop}
-use Rattle.rules.specs.Files.{rowIn, drumIn, marksIn}
+use native.Mathlib.Omega.{arith}
+use lib.ListN.{length, take, drop}
+use Rattle.bytes.proofs.Joins.{put-all, length-field}
+use Rattle.file.specs.Files.{rowIn, drumIn, marksIn}
 use Rattle.file.proofs.Wholes.{whole-is, no-drum, no-marks, file-is, not-whole, no-bytes, not-read, was-read}
 use Rattle.file.proofs.reading.read_file.Statement.{statement}
 use Rattle.file.proofs.reading.read_file.Tie as tie
@@ -35,8 +37,8 @@ returns-3 c =
 fill-row-requires : tie.Need-fill-row-requires
 fill-row-requires c κs = search needs
 
-fill-bytes-requires : tie.Need-fill-bytes-requires
-fill-bytes-requires c κs = search needs
+copy-requires : tie.Need-copy-requires
+copy-requires c κs = search needs
 
 state-at-requires : tie.Need-state-at-requires
 state-at-requires c κs = search needs
@@ -50,14 +52,20 @@ same-length-2 c = search needs
 returns-4 : tie.Need-returns-4
 unfolding drumIn marksIn
 returns-4 c =
-    let a = c .before .before .before .before .before .before .before .before .before .before .before .before .before .before .before .args in
-    let d = c .before .before .before .before .before .before .before .before .before .before .before .if1 .left in
-    let m = c .before .before .before .before .before .before .before .before .before .before .if2 .left in
-    was-read (a .drum .now) (a .marks .now) (a .bytes .now)
-    (file-is (a .drum .now) (a .marks .now) (a .bytes .now) (whole-is (a .drum .now) (a .marks .now) d m) (c .before .before .before .before .before .before .before .before .before .if3 .left))
+    let marks : tie.After-copy = search in
+    let drum : tie.After-fill-row = search in
+    let as-long : tie.Else3 = search in
+    let m : tie.Else2 = search in
+    let d : tie.Else1 = search in
+    let start : tie.Start = search in
+    let a = start .args in
+    let bytes = a .bytes .now in
+    let size : length (take 1000 (drop 8000 bytes)) ≡ 1000 = length-field bytes 8000 1000 (omega (arith, as-long .if3 .left)) in
+    was-read (a .drum .now) (a .marks .now) bytes
+    (file-is (a .drum .now) (a .marks .now) bytes (whole-is (a .drum .now) (a .marks .now) (d .if1 .left) (m .if2 .left)) (as-long .if3 .left))
     refl (c .state-at .ensures)
-    (c .before .before .before .before .before .before .before .fill-row .ensures ∙ ap (λ (n : ℕ). rowIn n (a .bytes .now)) d)
-    (c .before .before .before .fill-bytes .ensures ∙ ap (λ (n : ℕ). take n (drop 8000 (a .bytes .now))) m)
+    (drum .fill-row .ensures ∙ ap (λ (n : ℕ). rowIn n bytes) (d .if1 .left))
+    (marks .copy .ensures ∙ put-all (take 1000 (drop 8000 bytes)) (a .marks .now) (size ∙ sym (m .if2 .left)))
 
 pub read-file-spec : {M : Type 1} → statement M
 read-file-spec =
@@ -70,7 +78,7 @@ read-file-spec =
     nothing-requires-3
     returns-3
     fill-row-requires
-    fill-bytes-requires
+    copy-requires
     state-at-requires
     same-length
     same-length-2

@@ -1,7 +1,7 @@
 -- `file::state_at` meets its contract: the nine numbers are those at the end of the file. Assumes nothing.
 use mathlib.Core.Path.{ap, _∙_}
 use borrow.Author.Needs.{needs}
-use Rattle.rules.specs.Files.{stateOf}
+use Rattle.file.specs.Files.{stateOf}
 use Rattle.rules.specs.States.{stateIn}
 use Rattle.file.proofs.reading.state_at.Statement.{statement}
 use Rattle.file.proofs.reading.state_at.Tie as tie

@@ -4,7 +4,7 @@ use Prim.Native.Nat.{_-_, _≤_}
 use native.Mathlib.Omega.{arith}
 use lib.ListN.{length, getD, length-set}
 use lib.Seq.{paste, paste-zero}
-use Rattle.file.proofs.Copies.{fill-more, fill-end}
+use Rattle.bytes.proofs.Copies.{fill-more, fill-end}
 use Rattle.file.proofs.texts.put_cells.Statement.{statement}
 use Rattle.file.proofs.texts.put_cells.Tie as tie
 

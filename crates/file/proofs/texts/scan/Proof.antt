@@ -1,9 +1,10 @@
 -- `file::scan` meets its contract: at each byte what is left of the text has the numbers of the whole. Assumes nothing.
-use mathlib.Core.Path.{sym, _∙_}
+use mathlib.Core.Path.{sym, ap, _∙_}
 use Prim.Native.Nat.{_-_}
 use native.Mathlib.Omega.{arith}
-use borrow.Author.Tests.{not-true, not-false}
+use borrow.Author.Needs.{needs}
 use lib.ListN.{length}
+use Rattle.file.proofs.Numbers.{took, takes-is, number-is}
 use Rattle.file.proofs.Scans.{Reading, reading-begins, reading-gap, reading-full, reading-digit, reading-bad, reading-ends}
 use Rattle.file.proofs.texts.scan.Statement.{statement}
 use Rattle.file.proofs.texts.scan.Tie as tie
@@ -15,7 +16,9 @@ abbrev μ-loop : tie.MeasureT-loop
 μ-loop cells₀ text n₀ begun₀ x₀ i₀ cells n begun x i = length text - i
 
 loop-holds : tie.Need-loop-holds Inv-loop μ-loop
-loop-holds c = reading-begins (c .before .before .args .text .now) (c .before .before .args .cells .now)
+loop-holds c =
+    let start : tie.Start Inv-loop μ-loop = search in
+    reading-begins (start .args .text .now) (start .args .cells .now)
 
 shared-slice-read-b : tie.Need-shared-slice-read-b Inv-loop μ-loop
 shared-slice-read-b c = omega arith
@@ -27,51 +30,111 @@ is-gap-requires : tie.Need-is-gap-requires Inv-loop μ-loop
 is-gap-requires c κs = tt
 
 end-number-requires : tie.Need-end-number-requires Inv-loop μ-loop
-end-number-requires c κs = c .before .before .before .before .before .loop .inv .few
+end-number-requires c κs =
+    let loop : tie.At-loop Inv-loop μ-loop = search in
+    loop .loop .inv .few
 
 same-length : tie.Need-same-length Inv-loop μ-loop
-same-length c = c .before .before .before .end-number .kept .0 ∙ c .before .before .before .before .before .before .before .before .before .loop .inv .whole
+same-length c =
+    let end : tie.After-end-number Inv-loop μ-loop = search in
+    let loop : tie.At-loop Inv-loop μ-loop = search in
+    end .end-number .kept .0 ∙ loop .loop .inv .whole
 
 returns : tie.Need-returns Inv-loop μ-loop
 returns c =
-    reading-full (c .before .before .before .before .before .before .before .before .before .loop .inv) (c .before .before .before .end-number .result) (c .before .before .before .end-number .last .0) (c .before .before .before .before .before .before .before .before .loop-test .taken) (sym (c .before .before .before .before .before .before .is-gap .ensures) ∙ c .before .before .before .before .before .if1 .taken) (c .before .before .before .end-number .ensures .0) (c .before .before .before .end-number .ensures .1) (c .if2 .taken)
+    let end : tie.After-end-number Inv-loop μ-loop = search in
+    let gap : tie.Then1 Inv-loop μ-loop = search in
+    let test : tie.After-is-gap Inv-loop μ-loop = search in
+    let turn : tie.In-loop Inv-loop μ-loop = search in
+    let loop : tie.At-loop Inv-loop μ-loop = search in
+    reading-full (loop .loop .inv) (end .end-number .result) (end .end-number .last .0) (turn .loop-test .taken) (sym (test .is-gap .ensures) ∙ gap .if1 .taken)
+    (end .end-number .ensures .0) (end .end-number .ensures .1) (c .if2 .taken)
 
 loop-less : tie.Need-loop-less Inv-loop μ-loop
 loop-less c = omega arith
 
 loop-again : tie.Need-loop-again Inv-loop μ-loop
 loop-again c =
-    reading-gap (c .before .before .before .before .before .before .before .before .before .loop .inv) (c .before .before .before .end-number .result) (c .before .before .before .end-number .last .0) (c .before .before .before .before .before .before .before .before .loop-test .taken) (sym (c .before .before .before .before .before .before .is-gap .ensures) ∙ c .before .before .before .before .before .if1 .taken) (c .before .before .before .end-number .ensures .0) (c .before .before .before .end-number .ensures .1) (c .if2 .left)
-
-is-taken-requires : tie.Need-is-taken-requires Inv-loop μ-loop
-is-taken-requires c κs = tt
-
-same-length-2 : tie.Need-same-length-2 Inv-loop μ-loop
-same-length-2 c = c .before .before .before .before .before .before .loop .inv .whole
-
-returns-2 : tie.Need-returns-2 Inv-loop μ-loop
-returns-2 c =
-    reading-bad (c .before .before .before .before .before .before .loop .inv) (c .before .before .before .before .before .loop-test .taken) (sym (c .before .before .before .is-gap .ensures) ∙ c .before .before .if1 .left) (sym (c .before .is-taken .ensures) ∙ not-true _ (c .if3 .taken))
+    let end : tie.After-end-number Inv-loop μ-loop = search in
+    let gap : tie.Then1 Inv-loop μ-loop = search in
+    let test : tie.After-is-gap Inv-loop μ-loop = search in
+    let turn : tie.In-loop Inv-loop μ-loop = search in
+    let loop : tie.At-loop Inv-loop μ-loop = search in
+    reading-gap (loop .loop .inv) (end .end-number .result) (end .end-number .last .0) (turn .loop-test .taken) (sym (test .is-gap .ensures) ∙ gap .if1 .taken)
+    (end .end-number .ensures .0) (end .end-number .ensures .1) (c .if2 .left)
 
 with-digit-requires : tie.Need-with-digit-requires Inv-loop μ-loop
-with-digit-requires c κs = sym (c .before .is-taken .ensures) ∙ not-false _ (c .if3 .left)
+with-digit-requires c κs = tt
+
+enum-known-y : tie.Need-enum-known-y Inv-loop μ-loop
+enum-known-y c = search needs
 
 loop-less-2 : tie.Need-loop-less-2 Inv-loop μ-loop
 loop-less-2 c = omega arith
 
 loop-again-2 : tie.Need-loop-again-2 Inv-loop μ-loop
 loop-again-2 c =
-    reading-digit (c .before .before .before .before .before .before .before .loop .inv) (c .with-digit .result) (c .before .before .before .before .before .before .loop-test .taken) (sym (c .before .before .before .before .is-gap .ensures) ∙ c .before .before .before .if1 .left) (sym (c .before .before .is-taken .ensures) ∙ not-false _ (c .before .if3 .left)) (c .with-digit .ensures)
+    let read : tie.After-with-digit Inv-loop μ-loop = search in
+    let other : tie.Else1 Inv-loop μ-loop = search in
+    let test : tie.After-is-gap Inv-loop μ-loop = search in
+    let turn : tie.In-loop Inv-loop μ-loop = search in
+    let loop : tie.At-loop Inv-loop μ-loop = search in
+    let e = sym (c .before .y .given .1) ∙ read .with-digit .ensures in
+    reading-digit (loop .loop .inv) (c .before .y .given .0 .0) (turn .loop-test .taken) (sym (test .is-gap .ensures) ∙ other .if1 .left)
+    (takes-is _ _ ∙ ap took (sym e)) (number-is _ _ e)
 
-end-number-requires-2 : tie.Need-end-number-requires-2 Inv-loop μ-loop
-end-number-requires-2 c κs = c .before .before .loop .inv .few
+enum-told : tie.Need-enum-told Inv-loop μ-loop
+enum-told c = search needs
+
+same-length-2 : tie.Need-same-length-2 Inv-loop μ-loop
+same-length-2 c =
+    let loop : tie.At-loop Inv-loop μ-loop = search in
+    loop .loop .inv .whole
+
+returns-2 : tie.Need-returns-2 Inv-loop μ-loop
+returns-2 c =
+    let read : tie.After-with-digit Inv-loop μ-loop = search in
+    let other : tie.Else1 Inv-loop μ-loop = search in
+    let test : tie.After-is-gap Inv-loop μ-loop = search in
+    let turn : tie.In-loop Inv-loop μ-loop = search in
+    let loop : tie.At-loop Inv-loop μ-loop = search in
+    reading-bad (loop .loop .inv) (turn .loop-test .taken) (sym (test .is-gap .ensures) ∙ other .if1 .left)
+    (takes-is _ _ ∙ ap took (sym (read .with-digit .ensures) ∙ c .enum-told .given .1))
+
+enum-told-2 : tie.Need-enum-told-2 Inv-loop μ-loop
+enum-told-2 c = search needs
 
 same-length-3 : tie.Need-same-length-3 Inv-loop μ-loop
-same-length-3 c = c .before .before .end-number2 .kept .0 ∙ c .before .before .before .before .before .loop .inv .whole
+same-length-3 c =
+    let loop : tie.At-loop Inv-loop μ-loop = search in
+    loop .loop .inv .whole
 
 returns-3 : tie.Need-returns-3 Inv-loop μ-loop
 returns-3 c =
-    reading-ends (c .before .before .before .before .before .loop .inv) (c .before .before .end-number2 .result) (c .before .before .end-number2 .last .0) (omega arith) (c .before .before .end-number2 .ensures .0) (c .before .before .end-number2 .ensures .1)
+    let read : tie.After-with-digit Inv-loop μ-loop = search in
+    let other : tie.Else1 Inv-loop μ-loop = search in
+    let test : tie.After-is-gap Inv-loop μ-loop = search in
+    let turn : tie.In-loop Inv-loop μ-loop = search in
+    let loop : tie.At-loop Inv-loop μ-loop = search in
+    reading-bad (loop .loop .inv) (turn .loop-test .taken) (sym (test .is-gap .ensures) ∙ other .if1 .left)
+    (takes-is _ _ ∙ ap took (sym (read .with-digit .ensures) ∙ c .enum-told2 .given .1))
+
+end-number-requires-2 : tie.Need-end-number-requires-2 Inv-loop μ-loop
+end-number-requires-2 c κs =
+    let loop : tie.At-loop Inv-loop μ-loop = search in
+    loop .loop .inv .few
+
+same-length-4 : tie.Need-same-length-4 Inv-loop μ-loop
+same-length-4 c =
+    let end : tie.After-end-number2 Inv-loop μ-loop = search in
+    let loop : tie.At-loop Inv-loop μ-loop = search in
+    end .end-number2 .kept .0 ∙ loop .loop .inv .whole
+
+returns-4 : tie.Need-returns-4 Inv-loop μ-loop
+returns-4 c =
+    let end : tie.After-end-number2 Inv-loop μ-loop = search in
+    let loop : tie.At-loop Inv-loop μ-loop = search in
+    reading-ends (loop .loop .inv) (end .end-number2 .result) (end .end-number2 .last .0) (omega arith) (end .end-number2 .ensures .0) (end .end-number2 .ensures .1)
 
 pub scan-spec : {M : Type 1} → statement M
 scan-spec =
@@ -88,12 +151,16 @@ scan-spec =
     returns
     loop-less
     loop-again
-    is-taken-requires
-    same-length-2
-    returns-2
     with-digit-requires
+    enum-known-y
     loop-less-2
     loop-again-2
-    end-number-requires-2
+    enum-told
+    same-length-2
+    returns-2
+    enum-told-2
     same-length-3
-    returns-3)
+    returns-3
+    end-number-requires-2
+    same-length-4
+    returns-4)

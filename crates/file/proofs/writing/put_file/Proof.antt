@@ -1,22 +1,18 @@
 -- `file::put_file` meets its contract: each of the three parts stands right behind the one before. Assumes nothing.
-use mathlib.Core.List.{List, _++_}
-use mathlib.Core.Path.{_≡_, _∙_}
-use Prim.Native.Nat.{ℕ}
+use mathlib.Core.Path.{refl, _∙_}
 use native.Mathlib.Omega.{arith}
 use borrow.Author.Needs.{needs}
-use lib.ListN.{length, length-append}
-use Rattle.rules.specs.Files.{rowBytes}
-use Rattle.rules.specs.Running.{over}
-use Rattle.rules.proofs.Files.{length-row}
-use Rattle.card.proofs.Splices.{splice-start, grown}
+use Rattle.file.specs.Files.{rowBytes}
+use Rattle.file.proofs.Files.{length-row}
+use Rattle.bytes.proofs.Joins.{part-begin, put-part, put-more, put-over}
 use Rattle.file.proofs.writing.put_file.Statement.{statement}
 use Rattle.file.proofs.writing.put_file.Tie as tie
 
 put-row-requires : tie.Need-put-row-requires
 put-row-requires c κs = search needs
 
-put-bytes-requires : tie.Need-put-bytes-requires
-put-bytes-requires c κs = search needs
+put-run-requires : tie.Need-put-run-requires
+put-run-requires c κs = search needs
 
 put-row-requires-2 : tie.Need-put-row-requires-2
 put-row-requires-2 c κs = search needs
@@ -26,19 +22,15 @@ same-length c = search needs
 
 returns : tie.Need-returns
 returns c =
-    let a = c .before .before .before .before .before .before .before .before .before .before .before .before .before .before .before .before .args in
-    let d = a .out .now in
-    let room = c .before .before .before .before .before .before .before .before .before .before .before .before .before .before .before .before .pre in
-    let cells : List ℕ = rowBytes (a .drum .now) in
-    let marks : List ℕ = a .marks .now in
-    let state : List ℕ = rowBytes (a .numbers .now) in
-    let n₁ : length cells ≡ 8000 = length-row (a .drum .now) ∙ omega (arith, room) in
-    let n₂ : length (cells ++ marks) ≡ 9000 = length-append cells marks ∙ omega (arith, room, n₁) in
-    let n₃ : length state ≡ 72 = length-row (a .numbers .now) ∙ omega (arith, c .before .before .before .before .before .before .before .before .before .before .before .before .before .before .before .before .good) in
-    let e₁ : c .before .before .before .before .before .before .before .before .before .before .before .put-row .last .0 ≡ over cells d = c .before .before .before .before .before .before .before .before .before .before .before .put-row .ensures ∙ splice-start cells d in
-    let e₂ : c .before .before .before .before .before .before .before .put-bytes .last .0 ≡ over (cells ++ marks) d = grown d cells marks 8000 e₁ (c .before .before .before .before .before .before .before .put-bytes .ensures) n₁ (omega (arith, room)) in
-    grown d (cells ++ marks) state 9000 e₂ (c .before .before .put-row2 .ensures) n₂ (omega (arith, room, n₃))
+    let state : tie.After-put-row2 = search in
+    let marks : tie.After-put-run = search in
+    let drum : tie.After-put-row = search in
+    let start : tie.Start = search in
+    let a = start .args in
+    let h₁ = part-begin {p = rowBytes (a .drum .now)} {e = 8000} 8000 (drum .put-row .ensures) (length-row (a .drum .now) ∙ omega (arith, start .pre)) refl (omega (arith, start .pre)) in
+    let h₂ = put-more {e = 9000} (a .marks .now) 1000 h₁ (marks .put-run .ensures) (start .pre .1 .0) refl (omega (arith, start .pre)) in
+    put-over (put-part {e = 9072} (rowBytes (a .numbers .now)) 72 h₂ (state .put-row2 .ensures) (length-row (a .numbers .now) ∙ omega (arith, start .good)) refl (omega (arith, start .pre)))
 
 pub put-file-spec : {M : Type 1} → statement M
 put-file-spec =
-    tie.close (tie.spec put-row-requires put-bytes-requires put-row-requires-2 same-length returns)
+    tie.close (tie.spec put-row-requires put-run-requires put-row-requires-2 same-length returns)

@@ -4,9 +4,9 @@ use mathlib.Core.Path.{ap, _∙_}
 use Prim.Native.Nat.{ℕ}
 use native.Mathlib.Omega.{arith}
 use borrow.Author.Needs.{needs}
-use Rattle.rules.specs.Files.{rowBytes, fileOf}
+use Rattle.file.specs.Files.{rowBytes, fileOf}
 use Rattle.rules.specs.Running.{over}
-use Rattle.rules.proofs.Files.{length-file}
+use Rattle.file.proofs.Files.{length-file}
 use Rattle.card.proofs.Writes.{out-of-range, no-room, whole-card}
 use Rattle.file.proofs.Wholes.{whole-is, no-drum, no-marks}
 use Rattle.file.proofs.writing.write_file.Statement.{statement}

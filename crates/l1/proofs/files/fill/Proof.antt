@@ -3,7 +3,7 @@ use mathlib.Core.Path.{_≡_}
 use Prim.Native.Nat.{_≤_, _-_}
 use native.Mathlib.Omega.{arith}
 use lib.ListN.{length}
-use Rattle.l1.proofs.Letters.{counts}
+use Rattle.says.proofs.Counted.{counts}
 use borrow.Author.Needs.{needs}
 use Rattle.l1.proofs.files.fill.Statement.{statement}
 use Rattle.l1.proofs.files.fill.Tie as tie

@@ -1,6 +1,6 @@
 -- `l1::files::put` answers a place within the output. Assumes nothing.
 use native.Mathlib.Omega.{arith}
-use Rattle.l1.proofs.Letters.{counts}
+use Rattle.says.proofs.Counted.{counts}
 use borrow.Author.Needs.{needs}
 use Rattle.l1.proofs.files.put.Statement.{statement}
 use Rattle.l1.proofs.files.put.Tie as tie
@@ -21,7 +21,9 @@ same-length : tie.Need-same-length
 same-length c = search needs
 
 returns : tie.Need-returns
-returns c = counts _ _ (omega (arith, c .before .before .before .before .least .ensures .1, c .before .before .copy .ensures))
+returns c =
+    let least : tie.After-least = search in
+    counts _ _ (omega (arith, least .least .ensures .1, same-length c))
 
 pub put-spec : {M : Type 1} → statement M
 put-spec =

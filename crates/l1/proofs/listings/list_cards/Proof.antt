@@ -4,7 +4,7 @@ use Prim.Native.Nat.{_≤_, _-_}
 use native.Mathlib.Omega.{arith}
 use lib.ListN.{length}
 use borrow.Author.Needs.{needs}
-use Rattle.l1.proofs.Answers.{line-within}
+use Rattle.says.proofs.Answers.{line-within}
 use Rattle.l1.proofs.listings.list_cards.Statement.{statement}
 use Rattle.l1.proofs.listings.list_cards.Tie as tie
 

@@ -1,14 +1,14 @@
 -- `list::cards::put_cells` meets its contract. The loop's invariant: the lines of the words passed stand in the output, and all else is
 -- as it was. Assumes nothing.
-use mathlib.Core.Path.{_≡_, refl, sym, ap, subst, _∙_}
+use mathlib.Core.Path.{_≡_, refl, sym, ap, _∙_}
 use mathlib.Core.List.{_++_}
 use Prim.Native.Nat.{ℕ, _+_, _*_, _-_, _≤_}
 use native.Mathlib.Numerals.{add-one}
 use native.Mathlib.Omega.{arith}
 use lib.ListN.{length}
-use Rattle.rules.specs.Listing.{cellLine, cellLines}
-use Rattle.card.specs.Written.{splice}
-use Rattle.card.proofs.Splices.{splice-more, splice-none}
+use Rattle.list.specs.Listing.{cellLine, cellLines}
+use Rattle.bytes.specs.Put.{splice}
+use Rattle.bytes.proofs.Splices.{splice-more, splice-none}
 use Rattle.list.proofs.Lengths.{length-cell, length-cells}
 use Rattle.list.proofs.cards.put_cells.Statement.{statement}
 use Rattle.list.proofs.cards.put_cells.Tie as tie
@@ -37,8 +37,9 @@ add-put-cell-2 c = omega (arith, c .before .before .before .before .before .befo
 
 put-cell-requires : tie.Need-put-cell-requires Inv-loop μ-loop
 put-cell-requires c κs =
-    let s = c .before .before .before .before .before .before in
-    (omega (arith, s .pre .0, c .before .before .before .loop .inv .1), (omega (arith, s .pre .1 .0), subst (λ (w : ℕ). w ≤ 19999999999) (sym (c .before .word-of .ensures)) (s .pre .1 .1 (c .before .before .before .loop .i) (omega arith))))
+    let loop : tie.At-loop Inv-loop μ-loop = search in
+    let start : tie.Start Inv-loop μ-loop = search in
+    omega (arith, start .pre .0, loop .loop .inv .1)
 
 add-i : tie.Need-add-i Inv-loop μ-loop
 add-i c = omega arith

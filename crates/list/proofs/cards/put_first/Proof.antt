@@ -1,11 +1,12 @@
 -- `list::cards::put_first` meets its contract: each part stands right behind the one before. Assumes nothing.
-use mathlib.Core.Path.{refl}
 use mathlib.Core.List.{[], _∷_, _++_}
+use mathlib.Core.Path.{refl, _∙_}
 use native.Mathlib.Omega.{arith}
 use lib.ListN.{take, drop}
 use Rattle.rules.specs.Bytes.{bytes}
-use Rattle.rules.specs.Listing.{firstLine}
-use Rattle.list.proofs.Joins.{put-begin, put-more, put-piece, length-piece}
+use Rattle.bytes.proofs.Joins.{part-begin, put-more}
+use Rattle.list.specs.Listing.{firstLine}
+use Rattle.list.proofs.Joins.{put-piece, length-piece}
 use borrow.Author.Needs.{needs}
 use Rattle.list.proofs.cards.put_first.Statement.{statement}
 use Rattle.list.proofs.cards.put_first.Tie as tie
@@ -22,11 +23,8 @@ slice-aggregate-put-2 c = search needs
 put-requires-2 : tie.Need-put-requires-2
 put-requires-2 c κs = search needs
 
-slice-aggregate-copy : tie.Need-slice-aggregate-copy
-slice-aggregate-copy c = search needs
-
-copy-requires : tie.Need-copy-requires
-copy-requires c κs = search needs
+put-byte-requires : tie.Need-put-byte-requires
+put-byte-requires c κs = search needs
 
 same-length : tie.Need-same-length
 same-length c = search needs
@@ -34,11 +32,15 @@ same-length c = search needs
 returns : tie.Need-returns
 unfolding firstLine bytes
 returns c =
-    let s = c .before .before .before .before .before .before .before .before .before .before .before .before .before .before .before .before .before in
-    let r = s .args .rest .now in
-    let h₁ = put-begin {p = bytes "first order " ++ take 3 (drop 1 r)} {e = 15} (c .before .before .before .before .before .before .before .before .before .before .before .before .put .ensures) (omega (arith, length-piece (bytes "first order ") r 1 3 (omega (arith, s .pre)))) in
-    let h₂ = put-piece {e = 31} (bytes "     problem ") r 4 3 h₁ (c .before .before .before .before .before .before .before .put2 .ensures) (omega (arith, s .pre)) refl (omega (arith, s .pre)) in
-    put-more {e = 32} (10 ∷ []) 1 h₂ (c .before .before .copy .ensures) refl refl (omega (arith, s .pre)) .same
+    let ended : tie.After-put-byte = search in
+    let p₂ : tie.After-put2 = search in
+    let p₁ : tie.After-put = search in
+    let start : tie.Start = search in
+    let a = start .args in
+    let r = a .rest .now in
+    let h₁ = part-begin {p = bytes "first order " ++ take 3 (drop 1 r)} {e = 15} 15 (p₁ .put .ensures) (length-piece (bytes "first order ") r 1 3 (omega (arith, start .pre)) ∙ refl) refl (omega (arith, start .pre)) in
+    let h₂ = put-piece {e = 31} (bytes "     problem ") r 4 3 h₁ (p₂ .put2 .ensures) (omega (arith, start .pre)) refl (omega (arith, start .pre)) in
+    put-more {e = 32} (10 ∷ []) 1 h₂ (ended .put-byte .ensures) refl refl (omega (arith, start .pre)) .same
 
 pub put-first-spec : {M : Type 1} → statement M
 put-first-spec =
@@ -48,7 +50,6 @@ put-first-spec =
     put-requires
     slice-aggregate-put-2
     put-requires-2
-    slice-aggregate-copy
-    copy-requires
+    put-byte-requires
     same-length
     returns)

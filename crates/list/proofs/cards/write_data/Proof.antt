@@ -3,9 +3,9 @@ use mathlib.Core.Path.{refl}
 use Prim.Native.Nat.{_+_, _*_}
 use native.Mathlib.Omega.{arith}
 use Rattle.rules.specs.Bytes.{bytes}
-use Rattle.rules.specs.Listing.{headLine, cellLines, dataLines}
+use Rattle.list.specs.Listing.{headLine, cellLines, dataLines}
 use Rattle.card.proofs.Writes.{no-line}
-use Rattle.list.proofs.Joins.{put-begin, put-more}
+use Rattle.bytes.proofs.Joins.{part-begin, put-part}
 use Rattle.list.proofs.Endings.{all}
 use Rattle.list.proofs.Lengths.{length-head, length-cells, length-data}
 use borrow.Author.Needs.{needs}
@@ -45,12 +45,15 @@ same-length c = search needs
 returns-2 : tie.Need-returns-2
 unfolding dataLines bytes
 returns-2 c =
-    let s = c .before .before .before .before .before .before .before .before .before .before .before .before in
-    let a = s .args in
+    let cells : tie.After-put-cells = search in
+    let head : tie.After-put-head = search in
+    let room : tie.Else1 = search in
+    let start : tie.Start = search in
+    let a = start .args in
     let d = a .rest .now in
-    let h = put-begin {p = headLine (bytes "card  ") d (8 + 11 * a .n)} {e = 32} (c .before .before .before .before .before .before .put-head .ensures) (omega (arith, length-head (bytes "card  ") d (8 + 11 * a .n) refl (omega arith) (omega (arith, s .pre .0)))) in
-    all (dataLines d (a .location) (a .n)) (a .out .now) _ (32 + 44 * a .n) (length-data d (a .location) (a .n) (s .pre .0)) (c .before .before .before .before .before .before .before .before .before .if1 .left)
-    (put-more {e = 32 + 44 * a .n} (cellLines d (a .location) (a .n)) (44 * a .n) h (c .before .before .put-cells .ensures) (length-cells d (a .location) (a .n)) refl (c .before .before .before .before .before .before .before .before .before .if1 .left) .same)
+    let h = part-begin {p = headLine (bytes "card  ") d (8 + 11 * a .n)} {e = 32} 32 (head .put-head .ensures) (length-head (bytes "card  ") d (8 + 11 * a .n) refl (omega arith) (omega (arith, start .pre .0))) refl (omega (arith, room .if1 .left)) in
+    all (dataLines d (a .location) (a .n)) (a .out .now) _ (32 + 44 * a .n) (length-data d (a .location) (a .n) (start .pre .0)) (room .if1 .left)
+    (put-part {e = 32 + 44 * a .n} (cellLines d (a .location) (a .n)) (44 * a .n) h (cells .put-cells .ensures) (length-cells d (a .location) (a .n)) refl (room .if1 .left) .same)
 
 pub write-data-spec : {M : Type 1} → statement M
 write-data-spec =

@@ -1,6 +1,6 @@
 -- `list::cards::write_first` meets its contract: there is no room, or all is written. Assumes nothing.
 use native.Mathlib.Omega.{arith}
-use Rattle.rules.specs.Listing.{firstLine}
+use Rattle.list.specs.Listing.{firstLine}
 use Rattle.card.proofs.Writes.{no-line}
 use Rattle.list.proofs.Endings.{all}
 use Rattle.list.proofs.Lengths.{length-first}

@@ -1,45 +1,108 @@
--- `list::cells::put_order` meets its contract: the bytes that are set up are those of the word. Assumes nothing.
-use mathlib.Core.Path.{ap, _∙_}
-use mathlib.Core.List.{List}
-use Prim.Native.Nat.{ℕ}
-use Rattle.card.specs.Written.{splice}
-use Rattle.list.proofs.Readings.{fields-same, order-is}
+-- `list::cells::put_order` meets its contract: each part stands right behind the one before. Assumes nothing.
+use mathlib.Core.List.{[], _∷_, _++_}
+use mathlib.Core.Path.{_≡_, refl, ap, _∙_}
+use Prim.Native.Nat.{ℕ, _+_, _%_}
+use native.Mathlib.Omega.{arith}
+use lib.ListN.{length}
+use Rattle.rules.specs.Words.{bIn, cIn}
+use Rattle.rules.specs.Bytes.{bytes}
+use Rattle.rules.specs.Cards.{digits, wordBytes}
+use Rattle.rules.specs.Codes.{codeIn}
+use Rattle.rules.proofs.Digits.{length-digits}
+use Rattle.rules.proofs.Fields.{length-word}
+use Rattle.bytes.specs.Put.{splice}
+use Rattle.bytes.proofs.Joins.{put-begin, put-more}
+use Rattle.codes.proofs.Names.{name-ten}
+use Rattle.list.specs.Listing.{nameOf, aText, orderLine}
+use Rattle.list.proofs.Joins.{put-both}
+use Rattle.list.proofs.Lengths.{length-a}
 use borrow.Author.Needs.{needs}
 use Rattle.list.proofs.cells.put_order.Statement.{statement}
 use Rattle.list.proofs.cells.put_order.Tie as tie
 
-set-up-requires : tie.Need-set-up-requires
-set-up-requires c κs = search needs
+add-p : tie.Need-add-p
+add-p c = search needs
 
-row-of-requires : tie.Need-row-of-requires
-row-of-requires c κs = search needs
+put-run-requires : tie.Need-put-run-requires
+put-run-requires c κs = search needs
 
-place-of-a-requires : tie.Need-place-of-a-requires
-place-of-a-requires c κs = search needs
+put-word-requires : tie.Need-put-word-requires
+put-word-requires c κs = search needs
 
-slice-aggregate-put-fields : tie.Need-slice-aggregate-put-fields
-slice-aggregate-put-fields c = search needs
+add-put-name : tie.Need-add-put-name
+add-put-name c = search needs
 
-put-fields-requires : tie.Need-put-fields-requires
-put-fields-requires c κs = search needs
+put-name-requires : tie.Need-put-name-requires
+put-name-requires c κs = search needs
+
+add-put-a : tie.Need-add-put-a
+add-put-a c = search needs
+
+put-a-requires : tie.Need-put-a-requires
+put-a-requires c κs = search needs
+
+add-put-address : tie.Need-add-put-address
+add-put-address c = search needs
+
+put-address-requires : tie.Need-put-address-requires
+put-address-requires c κs = search needs
+
+add-put-address-2 : tie.Need-add-put-address-2
+add-put-address-2 c = search needs
+
+put-address-requires-2 : tie.Need-put-address-requires-2
+put-address-requires-2 c κs = search needs
+
+add-put-byte : tie.Need-add-put-byte
+add-put-byte c = search needs
+
+put-byte-requires : tie.Need-put-byte-requires
+put-byte-requires c κs = search needs
 
 same-length : tie.Need-same-length
 same-length c = search needs
 
 returns : tie.Need-returns
+unfolding orderLine bytes
 returns c =
-    let a = c .before .before .before .before .before .before .before .before .before .before .args in
-    c .before .before .put-fields .ensures
-    ∙ ap (λ (l : List ℕ). splice (a .a) l (a .out .now)) (fields-same (a .label .now) (c .before .before .before .before .before .before .before .set-up .ensures) (c .before .before .before .before .before .before .row-of .ensures .0) (c .before .before .before .before .before .place-of-a .ensures .0) ∙ order-is (a .label .now) (a .w))
+    let ended : tie.After-put-byte = search in
+    let of-c : tie.After-put-address2 = search in
+    let of-b : tie.After-put-address = search in
+    let of-a : tie.After-put-a = search in
+    let name : tie.After-put-name = search in
+    let word : tie.After-put-word = search in
+    let label : tie.After-put-run = search in
+    let start : tie.Start = search in
+    let a = start .args in
+    let w = a .w in
+    let p = a .a + length (a .label .now) in
+    let h₁ = put-begin {p = a .label .now} {e = p} (length (a .label .now)) (label .put-run .ensures) refl refl (omega (arith, start .pre)) in
+    let h₂ = put-more {e = p + 11} (wordBytes w) 11 h₁ (word .put-word .ensures) (length-word w) refl (omega (arith, start .pre)) in
+    let h₃ = put-both {e = p + 23} (bytes "  ") (nameOf w) 12 h₂ (name .put-name .ensures) (omega (arith, name-ten (codeIn w))) (omega arith) (omega (arith, start .pre)) in
+    let h₄ = put-both {e = p + 28} (bytes "  ") (aText w) 5 h₃ (of-a .put-a .ensures) (omega (arith, length-a w)) (omega arith) (omega (arith, start .pre)) in
+    let h₅ = put-both {e = p + 32} (bytes " ") (digits 3 (bIn w)) 4 h₄ (of-b .put-address .ensures) (omega (arith, length-digits 3 (bIn w))) (omega arith) (omega (arith, start .pre)) in
+    let v : ℕ = w % 10000000000 % 1000 in
+    let h₆ = put-both {e = p + 36} (bytes " ") (digits 3 v) 4 h₅ (of-c .put-address2 .ensures) (omega (arith, length-digits 3 v)) (omega arith) (omega (arith, start .pre)) in
+    put-more {e = p + 37} (10 ∷ []) 1 h₆ (ended .put-byte .ensures) refl (omega arith) (omega (arith, start .pre)) .same
+    ∙ ap (λ (k : ℕ). splice (a .a) (a .label .now ++ wordBytes w ++ bytes "  " ++ nameOf w ++ bytes "  " ++ aText w ++ bytes " " ++ digits 3 (bIn w) ++ bytes " " ++ digits 3 k ++ 10 ∷ []) (a .out .now))
+    (let e : v ≡ cIn w = omega arith in e)
 
 pub put-order-spec : {M : Type 1} → statement M
 put-order-spec =
     tie.close
     (tie.spec
-    set-up-requires
-    row-of-requires
-    place-of-a-requires
-    slice-aggregate-put-fields
-    put-fields-requires
+    add-p
+    put-run-requires
+    put-word-requires
+    add-put-name
+    put-name-requires
+    add-put-a
+    put-a-requires
+    add-put-address
+    put-address-requires
+    add-put-address-2
+    put-address-requires-2
+    add-put-byte
+    put-byte-requires
     same-length
     returns)

@@ -5,8 +5,8 @@ use Prim.Native.Nat.{ℕ, _≤_, _<_}
 use borrow.Author.Tests.{lt-leb, le-leb}
 use mathlib.Core.List.{[]}
 use lib.ListN.{length}
-use Rattle.rules.specs.Listing.{cellLine, cellShown}
-use Rattle.card.specs.Written.{splice}
+use Rattle.list.specs.Listing.{cellLine, cellShown}
+use Rattle.bytes.specs.Put.{splice}
 use Rattle.card.proofs.Writes.{no-line}
 use Rattle.list.proofs.Endings.{nothing, all}
 use Rattle.list.proofs.Lengths.{length-cell}

@@ -5,7 +5,7 @@ use Prim.Native.Nat.{ℕ}
 use borrow.Author.Tests.{lt-leb, le-leb, eq-eqb, ne-eqb, not-true, not-false}
 use lib.Dec.{eqb}
 use Rattle.rules.specs.Cards.{badFrom}
-use Rattle.rules.specs.Listing.{isStop}
+use Rattle.list.specs.Listing.{isStop}
 use Rattle.card.proofs.Checks.{part-is}
 use borrow.Author.Needs.{needs}
 use Rattle.list.proofs.kinds.is_stop.Statement.{statement}

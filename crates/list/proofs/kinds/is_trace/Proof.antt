@@ -3,7 +3,7 @@ use mathlib.Core.Path.{ap}
 use Prim.Native.Nat.{ℕ}
 use borrow.Author.Tests.{lt-leb, le-leb, eq-eqb, ne-eqb}
 use lib.Dec.{eqb}
-use Rattle.rules.specs.Listing.{isTrace}
+use Rattle.list.specs.Listing.{isTrace}
 use borrow.Author.Needs.{needs}
 use Rattle.list.proofs.kinds.is_trace.Statement.{statement}
 use Rattle.list.proofs.kinds.is_trace.Tie as tie

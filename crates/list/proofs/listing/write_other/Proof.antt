@@ -1,7 +1,7 @@
 -- `list::listing::write_other` meets its contract: by the two tests. Assumes nothing.
 use mathlib.Core.Path.{refl, sym, _∙_}
 use Rattle.list.proofs.Endings.{nothing}
-use Rattle.list.proofs.Answers.{trace-long, trace-words, stop-long, as-trace, as-stop, as-none}
+use Rattle.list.proofs.Answers.{trace-long, stop-long, as-trace, as-stop, as-none}
 use borrow.Author.Needs.{needs}
 use Rattle.list.proofs.listing.write_other.Statement.{statement}
 use Rattle.list.proofs.listing.write_other.Tie as tie
@@ -11,8 +11,7 @@ is-trace-requires c κs = search needs
 
 write-trace-requires : tie.Need-write-trace-requires
 write-trace-requires c κs =
-    let e = sym (c .before .before .is-trace .ensures) ∙ c .before .if1 .taken in
-    (trace-long _ e, trace-words _ e)
+    trace-long _ (sym (c .before .before .is-trace .ensures) ∙ c .before .if1 .taken)
 
 same-length : tie.Need-same-length
 same-length c = search needs

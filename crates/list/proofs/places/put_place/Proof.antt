@@ -1,29 +1,30 @@
 -- `list::places::put_place` meets its contract: each part stands right behind the one before. Assumes nothing.
+use mathlib.Core.List.{[], _∷_}
 use mathlib.Core.Path.{refl}
-use mathlib.Core.List.{[], _∷_, _++_}
 use Prim.Native.Nat.{_+_}
 use native.Mathlib.Omega.{arith}
-use lib.ListN.{take, drop}
 use Rattle.rules.specs.Bytes.{bytes}
-use Rattle.list.proofs.Joins.{put-begin, put-more, length-piece}
+use Rattle.rules.specs.Cards.{digits}
+use Rattle.rules.proofs.Digits.{length-digits}
+use Rattle.bytes.proofs.Joins.{put-begin, put-more}
 use borrow.Author.Needs.{needs}
 use Rattle.list.proofs.places.put_place.Statement.{statement}
 use Rattle.list.proofs.places.put_place.Tie as tie
 
-slice-aggregate-put : tie.Need-slice-aggregate-put
-slice-aggregate-put c = search needs
+slice-aggregate-put-run : tie.Need-slice-aggregate-put-run
+slice-aggregate-put-run c = search needs
 
-put-requires : tie.Need-put-requires
-put-requires c κs = search needs
+put-run-requires : tie.Need-put-run-requires
+put-run-requires c κs = search needs
 
-add-copy : tie.Need-add-copy
-add-copy c = search needs
+put-field-requires : tie.Need-put-field-requires
+put-field-requires c κs = search needs
 
-slice-aggregate-copy : tie.Need-slice-aggregate-copy
-slice-aggregate-copy c = search needs
+add-put-byte : tie.Need-add-put-byte
+add-put-byte c = search needs
 
-copy-requires : tie.Need-copy-requires
-copy-requires c κs = search needs
+put-byte-requires : tie.Need-put-byte-requires
+put-byte-requires c κs = search needs
 
 same-length : tie.Need-same-length
 same-length c = search needs
@@ -31,20 +32,23 @@ same-length c = search needs
 returns : tie.Need-returns
 unfolding bytes
 returns c =
-    let s = c .before .before .before .before .before .before .before .before .before .before .before .before in
-    let a = s .args in
-    let r = a .set .now in
-    let h₁ = put-begin {p = bytes "not a card at byte " ++ take (a .n) (drop 2 r)} {e = 19 + a .n} (c .before .before .before .before .before .before .before .put .ensures) (omega (arith, length-piece (bytes "not a card at byte ") r 2 (a .n) (omega (arith, s .pre)))) in
-    put-more {e = 20 + a .n} (10 ∷ []) 1 h₁ (c .before .before .copy .ensures) refl (omega arith) (omega (arith, s .pre)) .same
+    let ended : tie.After-put-byte = search in
+    let place : tie.After-put-field = search in
+    let text : tie.After-put-run = search in
+    let start : tie.Start = search in
+    let a = start .args in
+    let h₁ = put-begin {p = bytes "not a card at byte "} {e = 19} 19 (text .put-run .ensures) refl refl (omega (arith, start .pre)) in
+    let h₂ = put-more {e = 19 + a .n} (digits (a .n) (a .place)) (a .n) h₁ (place .put-field .ensures) (length-digits (a .n) (a .place)) refl (omega (arith, start .pre)) in
+    put-more {e = 20 + a .n} (10 ∷ []) 1 h₂ (ended .put-byte .ensures) refl (omega arith) (start .pre) .same
 
 pub put-place-spec : {M : Type 1} → statement M
 put-place-spec =
     tie.close
     (tie.spec
-    slice-aggregate-put
-    put-requires
-    add-copy
-    slice-aggregate-copy
-    copy-requires
+    slice-aggregate-put-run
+    put-run-requires
+    put-field-requires
+    add-put-byte
+    put-byte-requires
     same-length
     returns)

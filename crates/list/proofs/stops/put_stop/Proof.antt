@@ -1,11 +1,12 @@
 -- `list::stops::put_stop` meets its contract: each part stands right behind the one before. Assumes nothing.
-use mathlib.Core.Path.{refl}
 use mathlib.Core.List.{[], _∷_, _++_}
+use mathlib.Core.Path.{refl, _∙_}
 use native.Mathlib.Omega.{arith}
 use lib.ListN.{take, drop}
 use Rattle.rules.specs.Bytes.{bytes}
-use Rattle.rules.specs.Listing.{stopLine}
-use Rattle.list.proofs.Joins.{put-begin, put-more, put-piece, length-piece}
+use Rattle.bytes.proofs.Joins.{part-begin, put-more}
+use Rattle.list.specs.Listing.{stopLine}
+use Rattle.list.proofs.Joins.{put-piece, length-piece}
 use borrow.Author.Needs.{needs}
 use Rattle.list.proofs.stops.put_stop.Statement.{statement}
 use Rattle.list.proofs.stops.put_stop.Tie as tie
@@ -34,11 +35,8 @@ slice-aggregate-put-4 c = search needs
 put-requires-4 : tie.Need-put-requires-4
 put-requires-4 c κs = search needs
 
-slice-aggregate-copy : tie.Need-slice-aggregate-copy
-slice-aggregate-copy c = search needs
-
-copy-requires : tie.Need-copy-requires
-copy-requires c κs = search needs
+put-byte-requires : tie.Need-put-byte-requires
+put-byte-requires c κs = search needs
 
 same-length : tie.Need-same-length
 same-length c = search needs
@@ -46,13 +44,19 @@ same-length c = search needs
 returns : tie.Need-returns
 unfolding stopLine bytes
 returns c =
-    let s = c .before .before .before .before .before .before .before .before .before .before .before .before .before .before .before .before .before .before .before .before .before .before .before .before .before .before .before in
-    let r = s .args .rest .now in
-    let h₁ = put-begin {p = bytes "stop  " ++ take 2 (drop 1 r)} {e = 8} (c .before .before .before .before .before .before .before .before .before .before .before .before .before .before .before .before .before .before .before .before .before .before .put .ensures) (omega (arith, length-piece (bytes "stop  ") r 1 2 (omega (arith, s .pre)))) in
-    let h₂ = put-piece {e = 19} (bytes "    at ") r 3 4 h₁ (c .before .before .before .before .before .before .before .before .before .before .before .before .before .before .before .before .before .put2 .ensures) (omega (arith, s .pre)) refl (omega (arith, s .pre)) in
-    let h₃ = put-piece {e = 34} (bytes "  orders ") r 7 6 h₂ (c .before .before .before .before .before .before .before .before .before .before .before .before .put3 .ensures) (omega (arith, s .pre)) refl (omega (arith, s .pre)) in
-    let h₄ = put-piece {e = 53} (bytes "  shows ") r 13 11 h₃ (c .before .before .before .before .before .before .before .put4 .ensures) (omega (arith, s .pre)) refl (omega (arith, s .pre)) in
-    put-more {e = 54} (10 ∷ []) 1 h₄ (c .before .before .copy .ensures) refl refl (omega (arith, s .pre)) .same
+    let ended : tie.After-put-byte = search in
+    let p₄ : tie.After-put4 = search in
+    let p₃ : tie.After-put3 = search in
+    let p₂ : tie.After-put2 = search in
+    let p₁ : tie.After-put = search in
+    let start : tie.Start = search in
+    let a = start .args in
+    let r = a .rest .now in
+    let h₁ = part-begin {p = bytes "stop  " ++ take 2 (drop 1 r)} {e = 8} 8 (p₁ .put .ensures) (length-piece (bytes "stop  ") r 1 2 (omega (arith, start .pre)) ∙ refl) refl (omega (arith, start .pre)) in
+    let h₂ = put-piece {e = 19} (bytes "    at ") r 3 4 h₁ (p₂ .put2 .ensures) (omega (arith, start .pre)) refl (omega (arith, start .pre)) in
+    let h₃ = put-piece {e = 34} (bytes "  orders ") r 7 6 h₂ (p₃ .put3 .ensures) (omega (arith, start .pre)) refl (omega (arith, start .pre)) in
+    let h₄ = put-piece {e = 53} (bytes "  shows ") r 13 11 h₃ (p₄ .put4 .ensures) (omega (arith, start .pre)) refl (omega (arith, start .pre)) in
+    put-more {e = 54} (10 ∷ []) 1 h₄ (ended .put-byte .ensures) refl refl (omega (arith, start .pre)) .same
 
 pub put-stop-spec : {M : Type 1} → statement M
 put-stop-spec =
@@ -66,7 +70,6 @@ put-stop-spec =
     put-requires-3
     slice-aggregate-put-4
     put-requires-4
-    slice-aggregate-copy
-    copy-requires
+    put-byte-requires
     same-length
     returns)

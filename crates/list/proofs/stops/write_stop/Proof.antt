@@ -1,6 +1,6 @@
 -- `list::stops::write_stop` meets its contract: there is no room, or all is written. Assumes nothing.
 use native.Mathlib.Omega.{arith}
-use Rattle.rules.specs.Listing.{stopLine}
+use Rattle.list.specs.Listing.{stopLine}
 use Rattle.card.proofs.Writes.{no-line}
 use Rattle.list.proofs.Endings.{all}
 use Rattle.list.proofs.Lengths.{length-stop}

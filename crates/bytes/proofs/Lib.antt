@@ -1,0 +1,4 @@
+pub mod Splices
+pub mod Copies
+pub mod Joins
+pub mod Digits

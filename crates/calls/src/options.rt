@@ -1,0 +1,170 @@
+// What a call asks for beside its files: which words its command takes, and what those that came say.
+ghost use mathlib.Core.Path.{_≡_};
+ghost use Rattle.calls.specs.Words.{takes, formOf, atTurn, troubleOf, withTraced, withStop, withBudget, withWord, spoiltOf, isGiven};
+use crate::words::Asked;
+use crate::words::Command;
+
+// Whether a word may come: not with this command, or once, or no more.
+pub enum Turn {
+    Never,
+    Open,
+    Given,
+}
+
+// What is wrong with a word.
+pub enum Trouble {
+    Fine,
+    Stray,
+    Twice,
+    NotNumber,
+}
+
+// What a call asks for beside its files.
+pub struct Options {
+    pub good: bool,
+    pub traced: Turn,
+    pub stop: Turn,
+    pub limit: Turn,
+    pub budget: u64,
+}
+
+// A command that takes these words behind the names.
+fn taking(traced: Turn, stop: Turn, limit: Turn) -> Options
+    ensures { λ r. ⌜ r ≡ takes traced stop limit ⌝ }
+{
+    Options {
+        good: true,
+        traced,
+        stop,
+        limit,
+        budget: 999_999,
+    }
+}
+
+// What a command takes.
+pub fn form_of(command: Command) -> Options
+    ensures { λ r. ⌜ r ≡ formOf command ⌝ }
+{
+    match command {
+        Command::Session => taking(Turn::Open, Turn::Open, Turn::Open),
+        Command::New => taking(Turn::Never, Turn::Never, Turn::Never),
+        Command::Load => taking(Turn::Open, Turn::Never, Turn::Never),
+        Command::Run => taking(Turn::Never, Turn::Open, Turn::Open),
+        Command::Deck => taking(Turn::Never, Turn::Never, Turn::Never),
+        Command::List => taking(Turn::Never, Turn::Never, Turn::Never),
+        Command::Cells => taking(Turn::Never, Turn::Never, Turn::Never),
+        Command::Unknown => taking(Turn::Never, Turn::Never, Turn::Never),
+    }
+}
+
+// Whether a word may come now.
+fn at_turn(turn: Turn) -> Trouble
+    ensures { λ r. ⌜ r ≡ atTurn turn ⌝ }
+{
+    match turn {
+        Turn::Never => Trouble::Stray,
+        Turn::Open => Trouble::Fine,
+        Turn::Given => Trouble::Twice,
+    }
+}
+
+// What is wrong with a word, after those before it.
+pub fn trouble_of(options: Options, asked: Asked) -> Trouble
+    ensures { λ r. ⌜ r ≡ troubleOf options asked ⌝ }
+{
+    let traced = options.traced;
+    let stop = options.stop;
+    let limit = options.limit;
+    match asked {
+        Asked::Traced => at_turn(traced),
+        Asked::Stop => at_turn(stop),
+        Asked::Budget(_) => at_turn(limit),
+        Asked::NoNumber => Trouble::NotNumber,
+        Asked::Nothing => Trouble::Stray,
+    }
+}
+
+// What a call asks for with the word traced more.
+fn with_traced(options: Options) -> Options
+    ensures { λ r. ⌜ r ≡ withTraced options ⌝ }
+{
+    let stop = options.stop;
+    let limit = options.limit;
+    Options {
+        good: options.good,
+        traced: Turn::Given,
+        stop,
+        limit,
+        budget: options.budget,
+    }
+}
+
+// With the word stop more.
+fn with_stop(options: Options) -> Options
+    ensures { λ r. ⌜ r ≡ withStop options ⌝ }
+{
+    let traced = options.traced;
+    let limit = options.limit;
+    Options {
+        good: options.good,
+        traced,
+        stop: Turn::Given,
+        limit,
+        budget: options.budget,
+    }
+}
+
+// With a budget more.
+fn with_budget(options: Options, budget: u64) -> Options
+    ensures { λ r. ⌜ r ≡ withBudget options budget ⌝ }
+{
+    let traced = options.traced;
+    let stop = options.stop;
+    Options {
+        good: options.good,
+        traced,
+        stop,
+        limit: Turn::Given,
+        budget,
+    }
+}
+
+// With one word more.
+pub fn with_word(options: Options, asked: Asked) -> Options
+    ensures { λ r. ⌜ r ≡ withWord options asked ⌝ }
+{
+    match asked {
+        Asked::Traced => with_traced(options),
+        Asked::Stop => with_stop(options),
+        Asked::Budget(n) => with_budget(options, n),
+        Asked::NoNumber => options,
+        Asked::Nothing => options,
+    }
+}
+
+// A call that is not to be obeyed.
+pub fn spoilt(options: Options) -> Options
+    ensures { λ r. ⌜ r ≡ spoiltOf options ⌝ }
+{
+    let traced = options.traced;
+    let stop = options.stop;
+    let limit = options.limit;
+    Options {
+        good: false,
+        traced,
+        stop,
+        limit,
+        budget: options.budget,
+    }
+}
+
+// Whether a word came.
+pub fn is_given(turn: Turn) -> bool
+    ensures { λ r. ⌜ r ≡ isGiven turn ⌝ }
+{
+    match turn {
+        Turn::Never => false,
+        Turn::Open => false,
+        Turn::Given => true,
+    }
+}
