@@ -6,7 +6,7 @@ use native.Mathlib.Omega.{arith}
 use mathlib.Core.List.{List}
 use lib.ListN.{length, set, replicate, length-set, length-replicate}
 use Rattle.rules.specs.Codes.{codes}
-use Rattle.digits.proofs.Entries.{entry}
+use Rattle.powers.proofs.Entries.{entry}
 use Rattle.machine.specs.Rows.{rowIn, classNumber, classAt, slotAt, entryOf, Indexed}
 
 unfoldable pub laidOut : ℕ → List ℕ
