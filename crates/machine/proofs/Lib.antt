@@ -16,3 +16,4 @@ mod Orders
 mod Tellings
 mod Steps
 mod Runs
+mod OneRun

@@ -130,12 +130,14 @@ checked-is k v a b c = then-then (addressCheck k b c) (markCheck k v a b c) (num
 
 -- ---- the order itself
 
+-- what is found in the index is what the rules look up
+pub found-at : {t : Bool} {index : List ℕ} {key slot : ℕ} {x : Built} (w : ℕ) → Indexed t index → key ≡ keyIn w → slot ≡ slotOf key
+    → x ≡ builtIn index slot → x ≡ lookup (codeDone t w) codes
+found-at {index = index} w n e f g = g ∙ ap (builtIn index) (f ∙ ap slotOf e) ∙ n .finds w
+
 module _ {drum₀ out₀ drum marks out row : List ℕ} {m : Machine} (h : Shows drum₀ out₀ drum marks out row m) (i : Inputs) (w : ℕ) where
-  -- what is found in the index is what the rules look up
-  pub found-is : {index : List ℕ} {key slot : ℕ} {x : Built} → Indexed (eqb (getD row 7 0) 1) index → key ≡ keyIn w → slot ≡ slotOf key
-      → x ≡ builtIn index slot → x ≡ lookup (codeDone (isTraced (m .state)) w) codes
-  found-is {index} n e f g =
-      g ∙ ap (builtIn index) (f ∙ ap slotOf e) ∙ n .finds w ∙ ap (λ (r : List ℕ). lookup (codeDone (eqb (getD r 7 0) 1) w) codes) (h .row-is)
+  pub for-mode : {x : Built} → x ≡ lookup (codeDone (eqb (getD row 7 0) 1) w) codes → x ≡ lookup (codeDone (isTraced (m .state)) w) codes
+  for-mode e = e ∙ ap (λ (r : List ℕ). lookup (codeDone (eqb (getD r 7 0) 1) w) codes) (h .row-is)
 
   obeyed-is : (x : Built) → x ≡ lookup (codeDone (isTraced (m .state)) w) codes → obeyed i m w ≡ obeyedAs i m (aIn w) (bIn w) (cIn w) x
   unfolding obeyed
