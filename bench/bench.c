@@ -1,6 +1,7 @@
 /* Orders a second of the library and of the yardstick, on one workload: a deck that goes round without end. Arguments: the deck, then
  * `plain` or `traced`. Both are given the same calls in turn, and after each pair of calls everything that they answered and were lent
- * is compared. The best of several rounds is told, in the processor's time, since what else the machine does only adds to it. */
+ * is compared. The best of several rounds is told, in the processor's time, since what else the machine does only adds to it. With a
+ * third argument, a number of orders, there is one round of so many and nothing is told: for who counts the instructions of the calls. */
 #include "plain.h"
 
 long read(int file, void *to, size_t most);
@@ -48,21 +49,24 @@ static void say(const char *text)
         _exit(3);
 }
 
-/* A number with a point before its last `places` digits, in at least `width` columns. */
-static void say_number(uint64_t x, int places, int width)
+static void say_number(uint64_t x)
 {
     char text[32];
     int at = 31;
     text[at] = 0;
-    for (int i = 0; i <= places || x > 0; i++) {
-        if (places > 0 && i == places)
-            text[--at] = '.';
+    do {
         text[--at] = (char)('0' + x % 10);
         x /= 10;
-    }
-    while (31 - at < width)
-        text[--at] = ' ';
+    } while (x > 0);
     say(text + at);
+}
+
+static uint64_t number_in(const char *text)
+{
+    uint64_t x = 0;
+    while (*text)
+        x = 10 * x + (uint64_t)(*text++ - '0');
+    return x;
 }
 
 static void fail(const char *why)
@@ -101,20 +105,21 @@ static void once(struct machine *m, uint64_t budget)
 
 int main(int words, char **word)
 {
-    int file, traced;
+    int file, traced, rounds;
     long n;
     uint64_t budget;
 
-    if (words != 3)
-        fail("bench: a deck, and plain or traced\n");
+    if (words != 3 && words != 4)
+        fail("bench: a deck, plain or traced, and a number of orders or none\n");
     traced = strcmp(word[2], "traced") == 0;
-    budget = traced ? TRACED_ORDERS : PLAIN_ORDERS;
+    rounds = words == 4 ? 1 : ROUNDS;
+    budget = words == 4 ? number_in(word[3]) : traced ? TRACED_ORDERS : PLAIN_ORDERS;
     file = open(word[1], 0);
     while ((n = read(file, deck + deck_len, sizeof deck - deck_len)) > 0)
         deck_len += (size_t)n;
     prepare(&ours, traced);
     prepare(&yardstick, traced);
-    for (int i = 0; i < ROUNDS; i++) {
+    for (int i = 0; i < rounds; i++) {
         once(&ours, budget);
         once(&yardstick, budget);
         if (memcmp(&ours.ended, &yardstick.ended, sizeof ours.ended) || memcmp(ours.drum, yardstick.drum, sizeof ours.drum) ||
@@ -122,9 +127,11 @@ int main(int words, char **word)
             memcmp(ours.out, yardstick.out, ROOM))
             fail("bench: the two machines differ\n");
     }
-    say_number(budget * 1000000 / (ours.best / 1000), 0, 12);
-    say_number(budget * 1000000 / (yardstick.best / 1000), 0, 12);
-    say_number(ours.best * 100 / yardstick.best, 2, 8);
+    if (words == 4)
+        return 0;
+    say_number(budget * 1000000 / (ours.best / 1000));
+    say(" ");
+    say_number(budget * 1000000 / (yardstick.best / 1000));
     say("\n");
     return 0;
 }

@@ -60,11 +60,3 @@ splice-before a b t d h =
 pub splice-start : (s d : List ℕ) → splice 0 s d ≡ over s d
 unfolding over splice
 splice-start s d = ap (λ (k : ℕ). s ++ drop k d) (zero-add (length s))
-
--- one more part over the start
-pub grown : {l m : List ℕ} (d p s : List ℕ) (a : ℕ) → l ≡ over p d → m ≡ splice a s l → length p ≡ a → a + length s ≤ length d → m ≡ over (p ++ s) d
-grown d p s a e f q h =
-    f
-    ∙ ap (splice a s) (e ∙ sym (splice-start p d))
-    ∙ splice-more 0 a p s d (zero-add (length p) ∙ q) h
-    ∙ splice-start (p ++ s) d

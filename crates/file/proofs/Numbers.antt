@@ -34,15 +34,6 @@ module _ (x b : ℕ) where
       by-tests true false = refl
       by-tests false t = refl
 
-  pub number-is : {y : ℕ} → Number y ≡ longer x b → y ≡ withDigit x b
-  unfolding longer
-  number-is {y} e = by-tests (isDigit b) (ltb (withDigit x b) (2 ^ 64)) e
-    where
-      by-tests : (d t : Bool) → Number y ≡ pick d (pick t (Number (withDigit x b)) TooLarge) NoDigit → y ≡ withDigit x b
-      by-tests true true e = cc
-      by-tests true false e = cc
-      by-tests false t e = cc
-
 module _ (done : List ℕ) (begun : Bool) (x b : ℕ) (text : List ℕ) where
   pub gap-read : isGap b ≡ true → numbersFrom done begun x (b ∷ text) ≡ numbersFrom (ended done begun x) false 0 text
   unfolding numbersFrom

@@ -13,7 +13,7 @@ use Rattle.rules.specs.Running.{isMinus, sumsFit, orderFits, boxWord, asDone}
 use Rattle.rules.specs.declared.State.{State}
 use Rattle.rules.proofs.Tests.{both-first, both-second}
 use Rattle.machine.specs.Lent.{Shows}
-use Rattle.machine.specs.Stated.{stateOf}
+use Rattle.rules.specs.States.{stateIn}
 
 three-counts : (l : List ℕ) → length l ≡ 3 → getD l 0 0 ∷ getD l 1 0 ∷ getD l 2 0 ∷ [] ≡ l
 three-counts [] e = let z : ⊥ = omega arith in absurd z
@@ -23,8 +23,8 @@ three-counts (a ∷ b ∷ c ∷ []) e = refl
 three-counts (a ∷ b ∷ c ∷ d ∷ l) e = let z : ⊥ = omega arith in absurd z
 
 -- they are its state
-pub state-is : {drum₀ out₀ drum marks out row : List ℕ} {m : Machine} → Shows drum₀ out₀ drum marks out row m → stateOf row ≡ m .state
-state-is {m = m} h = ap stateOf (h .row-is) ∙ ap (counting (m .state)) (three-counts (m .state .counts) (h .steady .three))
+pub state-is : {drum₀ out₀ drum marks out row : List ℕ} {m : Machine} → Shows drum₀ out₀ drum marks out row m → stateIn row ≡ m .state
+state-is {m = m} h = ap stateIn (h .row-is) ∙ ap (counting (m .state)) (three-counts (m .state .counts) (h .steady .three))
 
 joined : {w : ℕ} (s x y z p q r : ℕ) → s ≤ 1 → w ≡ s * 10000000000 + x → x + r ≤ y * 1000 + 999 → y + q ≤ z * 1000 + 999 → z + p ≤ 9999
     → w + (p * 1000000 + q * 1000 + r * 1) ≤ 19999999999

@@ -7,7 +7,13 @@ mod Boxes
 mod Sent
 mod Traces
 mod Punches
-mod Modes
-mod CardsRead
 mod StoredCards
+mod CardsRead
 mod Loads
+mod OneLoad
+mod Modes
+mod Orders
+mod Tellings
+mod Steps
+mod Runs
+mod OneRun

@@ -4,10 +4,9 @@ use mathlib.Core.Path.{_≡_, refl, sym, ap, subst, _∙_}
 use mathlib.Core.List.{List, [], _∷_, _++_}
 use mathlib.Core.Bool.{Bool, true, false}
 use native.Mathlib.Omega.{arith}
-use lib.Dec.{ltb}
 use lib.ListN.{length, getD, set, take, length-append}
-use borrow.Author.Tests.{le-leb, lt-leb, ne-eqb, eq-eqb, ltb-true, ltb-false}
-use Rattle.rules.specs.Words.{pick, both, isWord}
+use borrow.Author.Tests.{le-leb, lt-leb, ne-eqb, eq-eqb}
+use Rattle.rules.specs.Words.{both, isWord}
 use Rattle.rules.specs.Cards.{dataCard}
 use Rattle.rules.specs.Drum.{view, wordAt}
 use Rattle.rules.specs.Machine.{Machine, Inputs, onward}
@@ -124,8 +123,7 @@ module _ {drum marks out₁ row₁ : List ℕ} {b n : ℕ} {out row : List ℕ} 
       by-cards (suc j) q y =
           record {
             long = g ∙ i .long;
-            room =
-                omega (arith, i .room, w .size, ap (λ (z : List ℕ). getD z 9 0) f, no-further row (11 + 11 * k));
+            room = omega (arith, i .room, w .size, ap (λ (z : List ℕ). getD z 9 0) f, no-further row (11 + 11 * k));
             low = omega (arith, i .low);
             inside = omega (arith, i .inside, w .upto);
             fitting = subst Fitting (sym f) (still-fits (11 + 11 * k) (i .fitting));

@@ -1,27 +1,14 @@
--- The ten numbers as a state, with the cells as a machine, and as they are behind a card. Assumes nothing.
+-- The ten numbers with the cells as a machine, and as they are behind a card. Assumes nothing.
 use Prim.Native.Nat.{ℕ, _+_, _%_}
-use mathlib.Core.List.{List, [], _∷_}
+use mathlib.Core.List.{List, []}
 use lib.ListN.{getD, set}
 use Rattle.rules.specs.Drum.{view}
 use Rattle.rules.specs.Machine.{Machine}
-use Rattle.rules.specs.declared.State.{State}
-
--- the state that they are
-abbrev pub stateOf : List ℕ → State
-stateOf row =
-    record {
-      location = getD row 0 0;
-      counts = getD row 1 0 ∷ getD row 2 0 ∷ getD row 3 0 ∷ [];
-      counter = getD row 4 0;
-      problem = getD row 5 0;
-      reader = getD row 6 0;
-      mode = getD row 7 0;
-      tracing = getD row 8 0;
-    }
+use Rattle.rules.specs.States.{stateIn}
 
 -- the machine that lent runs show, but for what it has sent
 abbrev pub machineOf : (drum marks row : List ℕ) → Machine
-machineOf drum marks row = record { cells = view drum marks; sent = []; state = stateOf row }
+machineOf drum marks row = record { cells = view drum marks; sent = []; state = stateIn row }
 
 -- the counter is one up; after 9999 comes 0000
 abbrev pub numberedRow : List ℕ → List ℕ

@@ -6,14 +6,23 @@ ghost use lib.ListN.{getD, set};
 ghost use Rattle.machine.specs.Lent.{Fitting};
 
 pub const LOCATION: usize = 0;
+
 pub const COUNT_A: usize = 1;
+
 pub const COUNT_B: usize = 2;
+
 pub const COUNT_C: usize = 3;
+
 pub const COUNTER: usize = 4;
+
 pub const PROBLEM: usize = 5;
+
 pub const READER: usize = 6;
+
 pub const MODE: usize = 7;
+
 pub const TRACING: usize = 8;
+
 pub const WRITTEN: usize = 9;
 
 // Where the next order is.

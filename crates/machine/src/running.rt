@@ -60,7 +60,15 @@ fn state_in(row: &[u64; 10]) -> State
     ensures { λ r. ⌜ r ≡ stateIn (now (row .entry)) ⌝ }
 {
     states::state_in([
-        row[0], row[1], row[2], row[3], row[4], row[5], row[6], row[7], row[8],
+        row[0],
+        row[1],
+        row[2],
+        row[3],
+        row[4],
+        row[5],
+        row[6],
+        row[7],
+        row[8],
     ])
 }
 

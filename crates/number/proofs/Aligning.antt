@@ -17,8 +17,8 @@ use Rattle.rules.proofs.Nearest.{ten-rises}
 use Rattle.rules.proofs.Fractions.{none-halves, whole-halves}
 use Rattle.rules.proofs.Rounding.{settled-none}
 use Rattle.rules.proofs.Sums.{sumAt, same-at, first-at, second-at, far-at}
-use Rattle.digits.specs.Powers.{powerOf}
-use Rattle.digits.proofs.Powers.{in-table}
+use Rattle.powers.specs.Powers.{powerOf}
+use Rattle.powers.proofs.Powers.{in-table}
 use Rattle.number.specs.Asked.{Aligned}
 
 pub none : (s v j : ℕ) → v ≡ 0 → wordOf (settled single s (fraction (v * 10 ^ j) 1)) ≡ Result 0

@@ -1,7 +1,7 @@
 // Sums and differences: aligned, exact, and rounded once.
 use crate::rounding::judged;
 use crate::rounding::settle;
-use digits::power;
+use powers::power;
 use rules::Reckoned;
 ghost use mathlib.Core.Path.{_≡_};
 ghost use mathlib.Core.Bool.{true};

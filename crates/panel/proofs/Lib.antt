@@ -1,4 +1,3 @@
-mod Rows
 mod Outcomes
 pub mod OneAnswer
 pub mod Refused

@@ -9,8 +9,9 @@ use borrow.Author.Tests.{eqb-true}
 use Rattle.rules.specs.Words.{pick}
 use Rattle.rules.specs.Drum.{view, drumFits}
 use Rattle.rules.specs.Decks.{deckOf}
-use Rattle.rules.specs.Loads.{notLoaded, loadedFrom, loaded}
-use Rattle.rules.specs.Running.{notRun, begun, inputs, runFrom, stateFits, ranAs, ranOn, ran}
+use Rattle.rules.specs.Loads.{LoadCall, notLoaded, loadedFrom, loaded}
+use Rattle.rules.specs.Running.{RunCall, notRun, begun, inputs, runFrom, stateFits, ranAs, ranOn, ran}
+use Rattle.rules.specs.States.{stateIn, numbersOf}
 use Rattle.rules.specs.declared.Deck.{Deck}
 use Rattle.rules.specs.declared.Deck.the-variants.{Good, Faulty}
 use Rattle.rules.specs.declared.Bar.{Bar}
@@ -19,10 +20,8 @@ use Rattle.rules.specs.declared.Loading.{Loading}
 use Rattle.rules.specs.declared.Loading.the-variants.{Loaded, NotLoaded}
 use Rattle.rules.specs.declared.Ending.{Ending}
 use Rattle.rules.specs.declared.Ending.the-variants.{Ran, NotRun}
-use Rattle.rules.specs.declared.State.{State}
-use Rattle.rules.specs.States.{stateIn, numbersOf}
-use Rattle.panel.specs.Calls.{isOn, isState, barred, rowAfter, loadCalled, runCalled}
 use Rattle.rules.proofs.States.{kept}
+use Rattle.panel.specs.Calls.{isState, barred, rowAfter, loadCall, loadCalled, runCall, runCalled}
 
 -- the numbers of a state that was only read
 same-row : (row : List ℕ) → rowAfter row (stateIn row) ≡ row
@@ -38,22 +37,22 @@ isDone : Loading → Bool
 isDone Loaded = true
 isDone (NotLoaded b) = false
 
-load-state : (drum marks deck : List ℕ) (s : State) (on t u : Bool) (d : Deck) (c b : Bar)
-    → pick t (pick u (loadedFrom drum marks deck s on d) (notLoaded drum marks s BadDrum)) (notLoaded drum marks s c) .loading ≡ NotLoaded b
-    → pick t (pick u (loadedFrom drum marks deck s on d) (notLoaded drum marks s BadDrum)) (notLoaded drum marks s c) .state ≡ s
+load-state : (c : LoadCall) (t u : Bool) (d : Deck) (k b : Bar)
+    → pick t (pick u (loadedFrom c d) (notLoaded c BadDrum)) (notLoaded c k) .loading ≡ NotLoaded b
+    → pick t (pick u (loadedFrom c d) (notLoaded c BadDrum)) (notLoaded c k) .state ≡ c .state
 unfolding loadedFrom isDone
-load-state drum marks deck s on false u d c b e = refl
-load-state drum marks deck s on true false d c b e = refl
-load-state drum marks deck s on true true (Faulty f) c b e = refl
-load-state drum marks deck s on true true (Good behind) c b e = absurd (true≢false (ap isDone e))
+load-state c false u d k b e = refl
+load-state c true false d k b e = refl
+load-state c true true (Faulty f) k b e = refl
+load-state c true true (Good behind order problem) k b e = absurd (true≢false (ap isDone e))
 
 pub load-keeps : (drum marks deck row : List ℕ) (traced : ℕ) (b : Bar)
-    → loadCalled drum marks deck row traced .loading ≡ NotLoaded b
-    → rowAfter row (loadCalled drum marks deck row traced .state) ≡ row
+    → loadCalled row (loadCall drum marks deck row traced) .loading ≡ NotLoaded b
+    → rowAfter row (loadCalled row (loadCall drum marks deck row traced) .state) ≡ row
 unfolding loadCalled loaded
 load-keeps drum marks deck row traced b e =
     ap (rowAfter row)
-    (load-state drum marks deck (stateIn row) (isOn traced) (isState row) (drumFits (length drum) marks (view drum marks)) (deckOf deck) (barred drum marks deck) b e)
+    (load-state (loadCall drum marks deck row traced) (isState row) (drumFits (length drum) marks (view drum marks)) (deckOf deck) (barred drum marks deck) b e)
     ∙ same-row row
 
 -- ---- run
@@ -62,28 +61,28 @@ hasRun : Ending → Bool
 hasRun (Ran o) = true
 hasRun (NotRun b) = false
 
-begun-state : (drum marks deck out : List ℕ) (s : State) (budget : ℕ) (on t : Bool) (b : Bar)
-    → pick t (ranAs drum out (runFrom (inputs deck out on) budget (begun drum marks s) 0)) (notRun drum marks out s BadState) .ending ≡ NotRun b
-    → pick t (ranAs drum out (runFrom (inputs deck out on) budget (begun drum marks s) 0)) (notRun drum marks out s BadState) .state ≡ s
+begun-state : (c : RunCall) (t : Bool) (b : Bar)
+    → pick t (ranAs c (runFrom (inputs c) (c .budget) (begun c) 0)) (notRun c BadState) .ending ≡ NotRun b
+    → pick t (ranAs c (runFrom (inputs c) (c .budget) (begun c) 0)) (notRun c BadState) .state ≡ c .state
 unfolding ranAs hasRun
-begun-state drum marks deck out s budget on true b e = absurd (true≢false (ap hasRun e))
-begun-state drum marks deck out s budget on false b e = refl
+begun-state c true b e = absurd (true≢false (ap hasRun e))
+begun-state c false b e = refl
 
-run-state : (drum marks deck out : List ℕ) (s : State) (budget : ℕ) (on t u : Bool) (d : Deck) (c b : Bar)
-    → pick t (pick u (ranOn drum marks deck out s budget on d) (notRun drum marks out s BadDrum)) (notRun drum marks out s c) .ending ≡ NotRun b
-    → pick t (pick u (ranOn drum marks deck out s budget on d) (notRun drum marks out s BadDrum)) (notRun drum marks out s c) .state ≡ s
+run-state : (c : RunCall) (t u : Bool) (d : Deck) (k b : Bar)
+    → pick t (pick u (ranOn c d) (notRun c BadDrum)) (notRun c k) .ending ≡ NotRun b
+    → pick t (pick u (ranOn c d) (notRun c BadDrum)) (notRun c k) .state ≡ c .state
 unfolding ranOn
-run-state drum marks deck out s budget on false u d c b e = refl
-run-state drum marks deck out s budget on true false d c b e = refl
-run-state drum marks deck out s budget on true true (Faulty f) c b e = refl
-run-state drum marks deck out s budget on true true (Good first) c b e =
-    begun-state drum marks deck out s budget on (stateFits (view drum marks) deck first s budget) b e
+run-state c false u d k b e = refl
+run-state c true false d k b e = refl
+run-state c true true (Faulty f) k b e = refl
+run-state c true true (Good behind order problem) k b e =
+    begun-state c (stateFits (view (c .drum) (c .marks)) (c .deck) behind (c .state) (c .budget)) b e
 
 pub run-keeps : (drum marks deck out row : List ℕ) (budget stop : ℕ) (b : Bar)
-    → runCalled drum marks deck out row budget stop .ending ≡ NotRun b
-    → rowAfter row (runCalled drum marks deck out row budget stop .state) ≡ row
+    → runCalled row (runCall drum marks deck out row budget stop) .ending ≡ NotRun b
+    → rowAfter row (runCalled row (runCall drum marks deck out row budget stop) .state) ≡ row
 unfolding runCalled ran
 run-keeps drum marks deck out row budget stop b e =
     ap (rowAfter row)
-    (run-state drum marks deck out (stateIn row) budget (isOn stop) (isState row) (drumFits (length drum) marks (view drum marks)) (deckOf deck) (barred drum marks deck) b e)
+    (run-state (runCall drum marks deck out row budget stop) (isState row) (drumFits (length drum) marks (view drum marks)) (deckOf deck) (barred drum marks deck) b e)
     ∙ same-row row

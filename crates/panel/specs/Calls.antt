@@ -10,17 +10,16 @@ use Rattle.rules.specs.Words.{pick}
 use Rattle.rules.specs.Numbers.{endingNumber, endingPlace, endingShown, loadingNumber, loadingPlace}
 use Rattle.rules.specs.Drum.{view, drumFits}
 use Rattle.rules.specs.Decks.{deckOf}
-use Rattle.rules.specs.Loads.{LoadResult, notLoaded, loaded}
-use Rattle.rules.specs.Running.{RunResult, notRun, ran}
+use Rattle.rules.specs.Loads.{LoadCall, LoadResult, notLoaded, loaded}
+use Rattle.rules.specs.Running.{RunCall, RunResult, notRun, ran}
+use Rattle.rules.specs.States.{stateIn, numbersOf}
 use Rattle.rules.specs.declared.Deck.{Deck}
 use Rattle.rules.specs.declared.Deck.the-variants.{Good, Faulty}
 use Rattle.rules.specs.declared.Bar.{Bar}
 use Rattle.rules.specs.declared.Bar.the-variants.{BadDrum, BadDeck, BadState}
 use Rattle.rules.specs.declared.Loading.{Loading}
 use Rattle.rules.specs.declared.Ending.{Ending}
-use Rattle.rules.specs.declared.Ending.the-variants.{Ran, NotRun}
 use Rattle.rules.specs.declared.State.{State}
-use Rattle.rules.specs.States.{stateIn, numbersOf}
 use Rattle.panel.specs.declared.Place.{Place}
 use Rattle.panel.specs.declared.Ended.{Ended}
 
@@ -34,15 +33,10 @@ isState row = eqb (length row) 9
 
 abbrev pub barOf : Deck → Bar
 barOf (Faulty f) = BadDeck f
-barOf (Good first) = BadState
+barOf (Good behind order problem) = BadState
 
 unfoldable pub barred : List ℕ → List ℕ → List ℕ → Bar
 barred drum marks deck = pick (drumFits (length drum) marks (view drum marks)) (barOf (deckOf deck)) BadDrum
-
--- why a run was refused at its entry; of one that was not, nobody asks
-abbrev pub barIn : Ending → Bar
-barIn (NotRun b) = b
-barIn (Ran o) = BadState
 
 -- the numbers of a state are replaced where they are nine, and else stay
 abbrev pub rowAfter : List ℕ → State → List ℕ
@@ -50,9 +44,13 @@ rowAfter row s = pick (isState row) (numbersOf s) row
 
 -- ---- load
 
-unfoldable pub loadCalled : List ℕ → List ℕ → List ℕ → List ℕ → ℕ → LoadResult
-loadCalled drum marks deck row traced =
-    pick (isState row) (loaded drum marks deck (stateIn row) (isOn traced)) (notLoaded drum marks (stateIn row) (barred drum marks deck))
+-- the rules' call of what a C program lends and gives
+abbrev pub loadCall : (drum marks deck row : List ℕ) → ℕ → LoadCall
+loadCall drum marks deck row traced =
+    record { drum = drum; marks = marks; deck = deck; state = stateIn row; traced = isOn traced }
+
+unfoldable pub loadCalled : List ℕ → LoadCall → LoadResult
+loadCalled row c = pick (isState row) (loaded c) (notLoaded c (barred (c .drum) (c .marks) (c .deck)))
 
 abbrev pub loadingTold : Loading → Place
 loadingTold l = record { number = loadingNumber l; place = loadingPlace l }
@@ -65,9 +63,12 @@ pub record LoadTold (row₀ : List ℕ) (x : LoadResult) (drum marks row : List 
 
 -- ---- run
 
-unfoldable pub runCalled : List ℕ → List ℕ → List ℕ → List ℕ → List ℕ → ℕ → ℕ → RunResult
-runCalled drum marks deck out row budget stop =
-    pick (isState row) (ran drum marks deck out (stateIn row) budget (isOn stop)) (notRun drum marks out (stateIn row) (barred drum marks deck))
+abbrev pub runCall : (drum marks deck out row : List ℕ) (budget stop : ℕ) → RunCall
+runCall drum marks deck out row budget stop =
+    record { drum = drum; marks = marks; out = out; deck = deck; state = stateIn row; budget = budget; switches = record { stop = isOn stop } }
+
+unfoldable pub runCalled : List ℕ → RunCall → RunResult
+runCalled row c = pick (isState row) (ran c) (notRun c (barred (c .drum) (c .marks) (c .deck)))
 
 abbrev pub endingTold : Ending → ℕ → ℕ → Ended
 endingTold e count written =

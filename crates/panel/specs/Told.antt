@@ -12,5 +12,5 @@ wordTold x = record { number = reckonedNumber x; word = reckonedWord x }
 
 -- of the check of a deck: 0 and 0, or the number of a faulty deck and the place of its first fault
 abbrev pub placeTold : Deck → Place
-placeTold (Good behind) = record { number = 0; place = 0 }
+placeTold (Good behind order problem) = record { number = 0; place = 0 }
 placeTold (Faulty f) = record { number = deckNumber f; place = deckPlace f }

@@ -1,14 +1,16 @@
 // Load and run on what a C program lends. The state is nine numbers, read and replaced in place.
 ghost use mathlib.Core.Path.{_≡_};
-ghost use Rattle.panel.specs.Calls.{isOn, barred, barIn, loadCalled, loadingTold, LoadTold, runCalled, endingTold, RunTold};
+ghost use Rattle.panel.specs.Calls.{isOn, barred, loadCall, loadCalled, loadingTold, LoadTold, runCall, runCalled, endingTold, RunTold};
 use crate::Ended;
 use crate::Place;
-use crate::states::put_state;
-use crate::states::state_in;
+use crate::rows::is_state;
+use crate::rows::put_state;
+use crate::rows::state_in;
 use rules::Bar;
+use rules::Deck;
 use rules::Ending;
 use rules::Loading;
-use rules::State;
+use rules::Switches;
 
 // A switch is on at any number but 0.
 fn is_on(x: u64) -> bool
@@ -42,35 +44,22 @@ fn ending_told(x: Ending, count: u64, written: usize) -> Ended
     }
 }
 
-// Why a run was refused at its entry; of one that was not, nobody asks.
-fn bar_in(x: Ending) -> Bar
-    ensures { λ r. ⌜ r ≡ barIn x ⌝ }
+// Why a call is refused that brings no state: check 10, check 11, or else check 12.
+fn why_barred(drum: &[u64], marks: &[u8], deck: &[u8]) -> Bar
+    ensures { λ r. ⌜ r ≡ barred (now (drum .entry)) (now (marks .entry)) (now (deck .entry)) ⌝ }
 {
-    match x {
-        Ending::NotRun(bar) => bar,
-        Ending::Ran(_) => Bar::BadState,
+    if !drum::is_fit(drum, marks) {
+        return Bar::BadDrum;
     }
-}
-
-// Why a call is refused that brings no state: check 10, check 11, or else check 12. A run with a budget that no run may have is refused
-// by the first of them that fails, and changes nothing.
-fn why_barred(drum: &mut [u64], marks: &mut [u8], deck: &[u8]) -> Bar
-    ensures { λ r. ⌜ (r ≡ barred (now (drum .entry)) (now (marks .entry)) (now (deck .entry)))
-        × (now (drum .exit) ≡ now (drum .entry)) × (now (marks .exit) ≡ now (marks .entry)) ⌝ }
-{
-    let mut none = [0u8; 1];
-    let any = State {
-        location: 0,
-        counts: [0, 0, 0],
-        counter: 0,
-        problem: 0,
-        reader: 0,
-        mode: 0,
-        tracing: 0,
-    };
-    let x = machine::run(drum, marks, &mut none, deck, any, 1_000_000, false);
-    let ending = x.ending;
-    bar_in(ending)
+    let d = card::check_deck(deck);
+    match d {
+        Deck::Faulty(f) => Bar::BadDeck(f),
+        Deck::Good {
+            behind: _,
+            order: _,
+            problem: _,
+        } => Bar::BadState,
+    }
 }
 
 // A load. Where it is refused, everything stays as it came.
@@ -82,10 +71,11 @@ pub extern "C" fn l1_load(
     state: &mut [u64],
     traced: u64,
 ) -> Place
-    ensures { λ r. ⌜ LoadTold (now (state .entry)) (loadCalled (now (drum .entry)) (now (marks .entry)) (now (deck .entry)) (now (state .entry)) traced)
+    ensures { λ r. ⌜ LoadTold (now (state .entry))
+        (loadCalled (now (state .entry)) (loadCall (now (drum .entry)) (now (marks .entry)) (now (deck .entry)) (now (state .entry)) traced))
         (now (drum .exit)) (now (marks .exit)) (now (state .exit)) r ⌝ }
 {
-    if state.len() != 9 {
+    if !is_state(state) {
         let bar = why_barred(drum, marks, deck);
         return loading_told(Loading::NotLoaded(bar));
     }
@@ -109,15 +99,16 @@ pub extern "C" fn l1_run(
     stop: u64,
 ) -> Ended
     ensures { λ r. ⌜ RunTold (now (state .entry))
-        (runCalled (now (drum .entry)) (now (marks .entry)) (now (deck .entry)) (now (out .entry)) (now (state .entry)) budget stop)
+        (runCalled (now (state .entry)) (runCall (now (drum .entry)) (now (marks .entry)) (now (deck .entry)) (now (out .entry)) (now (state .entry)) budget stop))
         (now (drum .exit)) (now (marks .exit)) (now (out .exit)) (now (state .exit)) r ⌝ }
 {
-    if state.len() != 9 {
+    if !is_state(state) {
         let bar = why_barred(drum, marks, deck);
         return ending_told(Ending::NotRun(bar), 0, 0);
     }
     let before = state_in(state);
-    let x = machine::run(drum, marks, out, deck, before, budget, is_on(stop));
+    let switches = Switches { stop: is_on(stop) };
+    let x = machine::run(drum, marks, out, deck, before, budget, switches);
     let after = x.state;
     put_state(state, after);
     let ending = x.ending;

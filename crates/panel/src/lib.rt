@@ -1,7 +1,7 @@
 // The C face: word arithmetic and the deck check here, load and run in calls, each under the C calling convention and for any operands.
 // include/l1.h declares what is exported.
 mod calls;
-mod states;
+mod rows;
 
 pub use calls::l1_load;
 pub use calls::l1_run;
@@ -40,7 +40,11 @@ fn place_told(x: Deck) -> Place
     ensures { λ r. ⌜ r ≡ placeTold x ⌝ }
 {
     match x {
-        Deck::Good(_) => Place {
+        Deck::Good {
+            behind: _,
+            order: _,
+            problem: _,
+        } => Place {
             number: 0,
             place: 0,
         },

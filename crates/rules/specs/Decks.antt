@@ -26,7 +26,7 @@ use Rattle.rules.specs.declared.Refusal.the-variants.{Unfit, NoCard}
 abbrev pub cardAt : List ℕ → ℕ → Card
 cardAt deck at = cardOf (drop at deck)
 
--- how many bytes a card has that another can stand behind
+-- how many bytes a good card has; 0 where there is none, and no card is looked for behind it
 abbrev pub cardSize : Card → ℕ
 cardSize (Data number location words problem size) = size
 cardSize (First order problem) = firstSize

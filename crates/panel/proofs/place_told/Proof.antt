@@ -21,7 +21,8 @@ returns c = rw (c .enum-told .given .1) refl
 
 returns-2 : tie.Need-returns-2
 returns-2 c =
-    rw (c .before .before .before .x .given .1)
+    let fault : tie.After-x = search in
+    rw (fault .x .given .1)
     (λ i. record { number = c .before .deck-number .ensures i; place = c .deck-place .ensures i })
 
 pub place-told-spec : {M : Type 1} → statement M

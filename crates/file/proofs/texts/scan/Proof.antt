@@ -4,7 +4,8 @@ use Prim.Native.Nat.{_-_}
 use native.Mathlib.Omega.{arith}
 use borrow.Author.Needs.{needs}
 use lib.ListN.{length}
-use Rattle.file.proofs.Numbers.{took, takes-is, number-is}
+use Rattle.bytes.proofs.Digits.{number-is}
+use Rattle.file.proofs.Numbers.{took, takes-is}
 use Rattle.file.proofs.Scans.{Reading, reading-begins, reading-gap, reading-full, reading-digit, reading-bad, reading-ends}
 use Rattle.file.proofs.texts.scan.Statement.{statement}
 use Rattle.file.proofs.texts.scan.Tie as tie
@@ -81,7 +82,7 @@ loop-again-2 c =
     let loop : tie.At-loop Inv-loop μ-loop = search in
     let e = sym (c .before .y .given .1) ∙ read .with-digit .ensures in
     reading-digit (loop .loop .inv) (c .before .y .given .0 .0) (turn .loop-test .taken) (sym (test .is-gap .ensures) ∙ other .if1 .left)
-    (takes-is _ _ ∙ ap took (sym e)) (number-is _ _ e)
+    (takes-is _ _ ∙ ap took (sym e)) (number-is _ _ e .1)
 
 enum-told : tie.Need-enum-told Inv-loop μ-loop
 enum-told c = search needs

@@ -4,7 +4,7 @@ use mathlib.Core.Path.{_≡_, sym, ap, subst, _∙_}
 use borrow.Author.Tests.{not-true, not-false}
 use borrow.Author.Needs.{needs}
 use Rattle.rules.specs.Running.{asDone}
-use Rattle.machine.specs.Stated.{stateOf}
+use Rattle.rules.specs.States.{stateIn}
 use Rattle.machine.proofs.Boxes.{done-word}
 use Rattle.machine.proofs.sums.as_done.Statement.{statement}
 use Rattle.machine.proofs.sums.as_done.Tie as tie
@@ -29,9 +29,9 @@ returns-2 c =
     let minus : tie.After-is-minus = search in
     let one : tie.Else1 = search in
     let w : ℕ = start .args .w in
-    let e : w + c .box-word .result ≡ asDone (stateOf (start .args .row .now)) w =
+    let e : w + c .box-word .result ≡ asDone (stateIn (start .args .row .now)) w =
     simp (sym (minus .is-minus .ensures) ∙ not-false _ (one .if1 .left)) (ap (λ (n : ℕ). w + n) (c .box-word .ensures .0)) in
-    (e, subst (λ (n : ℕ). n ≤ 19999999999) (sym e) (done-word (stateOf (start .args .row .now)) w (start .pre .1) (start .pre .2)))
+    (e, subst (λ (n : ℕ). n ≤ 19999999999) (sym e) (done-word (stateIn (start .args .row .now)) w (start .pre .1) (start .pre .2)))
 
 pub as-done-spec : {M : Type 1} → statement M
 as-done-spec =

@@ -13,7 +13,11 @@ ending-shown-requires : tie.Need-ending-shown-requires
 ending-shown-requires c κs = search needs
 
 returns : tie.Need-returns
-returns c i = record { number = c .before .before .ending-number .ensures i; place = c .before .ending-place .ensures i; count = c .before .before .before .args .count; shown = c .ending-shown .ensures i; written = c .before .before .before .args .written }
+returns c =
+    let place : tie.After-ending-place = search in
+    let number : tie.After-ending-number = search in
+    let start : tie.Start = search in
+    λ i. record { number = number .ending-number .ensures i; place = place .ending-place .ensures i; count = start .args .count; shown = c .ending-shown .ensures i; written = start .args .written }
 
 pub ending-told-spec : {M : Type 1} → statement M
 ending-told-spec = tie.close (tie.spec ending-number-requires ending-place-requires ending-shown-requires returns)

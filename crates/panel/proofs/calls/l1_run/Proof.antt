@@ -1,9 +1,14 @@
 -- `panel::calls::l1_run` meets its contract: a state that is not nine numbers is refused, and on any other the machine's run says
 -- the rest. Assumes nothing.
+use mathlib.Core.Path.{sym, _∙_}
+use borrow.Author.Tests.{eqb-true, not-true, not-false}
 use borrow.Author.Needs.{needs}
 use Rattle.panel.proofs.Outcomes.{run-barred, run-done}
 use Rattle.panel.proofs.calls.l1_run.Statement.{statement}
 use Rattle.panel.proofs.calls.l1_run.Tie as tie
+
+is-state-requires : tie.Need-is-state-requires
+is-state-requires c κs = search needs
 
 why-barred-requires : tie.Need-why-barred-requires
 why-barred-requires c κs = search needs
@@ -17,14 +22,22 @@ same-length c = search needs
 same-length-2 : tie.Need-same-length-2
 same-length-2 c = search needs
 
+same-length-3 : tie.Need-same-length-3
+same-length-3 c = search needs
+
 returns : tie.Need-returns
 returns c =
-    let a = c .before .before .before .before .before .before .before .before .before .before .before .before .before .before .args in
-    let w = c .before .before .before .before .before .why-barred .ensures in
-    run-barred (a .drum .now) (a .marks .now) (a .deck .now) (a .out .now) (a .state .now) (a .budget) (a .stop) (c .before .before .before .before .before .before .before .before .if1 .taken) (w .0) (w .1) (w .2) (c .ending-told .ensures)
+    let why : tie.After-why-barred = search in
+    let other : tie.Then1 = search in
+    run-barred _ _
+    (sym (other .before .is-state .ensures) ∙ not-true _ (other .if1 .taken))
+    (why .why-barred .ensures)
+    (c .ending-told .ensures)
 
 state-in-requires : tie.Need-state-in-requires
-state-in-requires c κs = search needs
+state-in-requires c κs =
+    let nine : tie.Else1 = search in
+    eqb-true _ _ (sym (nine .before .is-state .ensures) ∙ not-false _ (nine .if1 .left))
 
 is-on-requires : tie.Need-is-on-requires
 is-on-requires c κs = search needs
@@ -33,13 +46,12 @@ run-requires : tie.Need-run-requires
 run-requires c κs = search needs
 
 put-state-requires : tie.Need-put-state-requires
-put-state-requires c κs = search needs
+put-state-requires c κs =
+    let nine : tie.Else1 = search in
+    eqb-true _ _ (sym (nine .before .is-state .ensures) ∙ not-false _ (nine .if1 .left))
 
 ending-told-requires-2 : tie.Need-ending-told-requires-2
 ending-told-requires-2 c κs = search needs
-
-same-length-3 : tie.Need-same-length-3
-same-length-3 c = search needs
 
 same-length-4 : tie.Need-same-length-4
 same-length-4 c = search needs
@@ -50,27 +62,41 @@ same-length-5 c = search needs
 same-length-6 : tie.Need-same-length-6
 same-length-6 c = search needs
 
+same-length-7 : tie.Need-same-length-7
+same-length-7 c = search needs
+
 returns-2 : tie.Need-returns-2
 returns-2 c =
-    let a = c .before .before .before .before .before .before .before .before .before .before .before .before .before .before .before .before .before .before .before .before .before .before .before .before .before .args in
-    run-done (a .drum .now) (a .marks .now) (a .deck .now) (a .out .now) (a .state .now) (a .budget) (a .stop) (c .before .before .before .before .before .before .before .before .before .before .before .before .before .before .before .before .before .before .before .if1 .left) (c .before .before .before .before .before .before .before .before .before .before .before .before .before .before .before .before .before .state-in .ensures) (c .before .before .before .before .before .before .before .before .before .before .before .before .before .is-on .ensures) (c .before .before .before .before .before .before .before .before .before .before .before .before .run .ensures) (c .before .before .before .put-state .ensures) (c .ending-told2 .ensures)
+    let put : tie.After-put-state = search in
+    let run : tie.After-run = search in
+    let on : tie.After-is-on = search in
+    let before : tie.After-state-in = search in
+    let nine : tie.Else1 = search in
+    run-done _ _
+    (sym (nine .before .is-state .ensures) ∙ not-false _ (nine .if1 .left))
+    (cc (before .state-in .ensures, on .is-on .ensures))
+    (run .run .ensures)
+    (put .put-state .ensures)
+    (c .ending-told2 .ensures)
 
 pub l1-run-spec : {M : Type 1} → statement M
 l1-run-spec =
     tie.close
     (tie.spec
+    is-state-requires
     why-barred-requires
     ending-told-requires
     same-length
     same-length-2
+    same-length-3
     returns
     state-in-requires
     is-on-requires
     run-requires
     put-state-requires
     ending-told-requires-2
-    same-length-3
     same-length-4
     same-length-5
     same-length-6
+    same-length-7
     returns-2)

@@ -1,30 +1,44 @@
--- `panel::calls::why_barred` meets its contract: a run with a budget of a million is refused by the checks alone. Assumes nothing.
+-- `panel::calls::why_barred` meets its contract: the first of the checks that fails is told, and check 12 where none does.
+-- Assumes nothing.
+use mathlib.Core.Path.{refl, sym, _∙_}
+use borrow.Author.Tests.{not-true, not-false}
 use borrow.Author.Needs.{needs}
 use Rattle.panel.proofs.Outcomes.{barred-by}
 use Rattle.panel.proofs.calls.why_barred.Statement.{statement}
 use Rattle.panel.proofs.calls.why_barred.Tie as tie
 
-slice-aggregate-run : tie.Need-slice-aggregate-run
-slice-aggregate-run c = search needs
-
-run-requires : tie.Need-run-requires
-run-requires c κs = search needs
-
-bar-in-requires : tie.Need-bar-in-requires
-bar-in-requires c κs = search needs
-
-same-length : tie.Need-same-length
-same-length c = search needs
-
-same-length-2 : tie.Need-same-length-2
-same-length-2 c = search needs
+is-fit-requires : tie.Need-is-fit-requires
+is-fit-requires c κs = search needs
 
 returns : tie.Need-returns
 returns c =
-    let a = c .before .before .before .before .before .before .before .before .before .before .before .before .before .args in
-    barred-by (a .drum .now) (a .marks .now) (a .deck .now) _ _ _ (c .before .before .before .before .before .before .run .ensures) (c .bar-in .ensures)
+    let fit : tie.After-is-fit = search in
+    barred-by _ _ _ (sym (not-true _ (c .if1 .taken)) ∙ fit .is-fit .ensures) refl
+
+check-deck-requires : tie.Need-check-deck-requires
+check-deck-requires c κs = search needs
+
+enum-known-d : tie.Need-enum-known-d
+enum-known-d c = search needs
+
+enum-told : tie.Need-enum-told
+enum-told c = search needs
+
+returns-2 : tie.Need-returns-2
+returns-2 c =
+    let fit : tie.After-is-fit = search in
+    let good : tie.Else1 = search in
+    let deck : tie.After-check-deck = search in
+    barred-by _ _ _ (sym (not-false _ (good .if1 .left)) ∙ fit .is-fit .ensures) (sym (c .before .d .given .1) ∙ deck .check-deck .ensures)
+
+returns-3 : tie.Need-returns-3
+returns-3 c =
+    let fit : tie.After-is-fit = search in
+    let good : tie.Else1 = search in
+    let deck : tie.After-check-deck = search in
+    barred-by _ _ _ (sym (not-false _ (good .if1 .left)) ∙ fit .is-fit .ensures) (sym (c .enum-told .given .1) ∙ deck .check-deck .ensures)
 
 pub why-barred-spec : {M : Type 1} → statement M
 why-barred-spec =
     tie.close
-    (tie.spec slice-aggregate-run run-requires bar-in-requires same-length same-length-2 returns)
+    (tie.spec is-fit-requires returns check-deck-requires enum-known-d enum-told returns-2 returns-3)

@@ -1,6 +1,6 @@
 // Powers of ten. This is the project's one table of them.
 ghost use mathlib.Core.Path.{_≡_};
-ghost use Rattle.digits.specs.Powers.{powerOf};
+ghost use Rattle.powers.specs.Powers.{powerOf};
 
 const POWERS: [u64; 20] = [
     1,

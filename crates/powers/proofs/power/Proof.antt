@@ -1,14 +1,14 @@
--- `digits::power` meets its contract: every entry of the table is the power of ten of its place, by one test over the table, and past
+-- `powers::power` meets its contract: every entry of the table is the power of ten of its place, by one test over the table, and past
 -- the table the answer is 0. Assumes nothing.
 use Prim.Native.Nat.{ℕ}
 use mathlib.Core.Path.{refl}
 use mathlib.Core.List.{List, [], _∷_}
 use borrow.Author.Needs.{needs}
 use borrow.Author.Tests.{le-ltb}
-use Rattle.digits.specs.Powers.{powerOf}
-use Rattle.digits.proofs.Entries.{entry}
-use Rattle.digits.proofs.power.Statement.{statement}
-use Rattle.digits.proofs.power.Tie as tie
+use Rattle.powers.specs.Powers.{powerOf}
+use Rattle.powers.proofs.Entries.{entry}
+use Rattle.powers.proofs.power.Statement.{statement}
+use Rattle.powers.proofs.power.Tie as tie
 
 mul-result : tie.Need-mul-result
 mul-result c = search needs

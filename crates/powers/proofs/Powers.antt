@@ -2,7 +2,7 @@
 use Prim.Native.Nat.{ℕ, _^_, _<_}
 use mathlib.Core.Path.{_≡_}
 use borrow.Author.Tests.{lt-ltb}
-use Rattle.digits.specs.Powers.{powerOf}
+use Rattle.powers.specs.Powers.{powerOf}
 
 pub in-table : (k : ℕ) → k < 20 → powerOf k ≡ 10 ^ k
 in-table k h = simp (lt-ltb k 20 h)
