@@ -27,7 +27,7 @@ recorded() {
         # shellcheck disable=SC2086
         same program session "$deck" $words || differences=$((differences + 1))
         # shellcheck disable=SC2086
-        same run_c front session "$deck" $words || differences=$((differences + 1))
+        same run_c "front${face:-}" session "$deck" $words || differences=$((differences + 1))
         # shellcheck disable=SC2086
         same target/second session "$deck" $words || differences=$((differences + 1))
     done <tests/sessions/list
@@ -35,7 +35,10 @@ recorded() {
     [ "$count" -gt 0 ] && [ "$differences" -eq 0 ]
 }
 
-program() (exec_program target/bin/l1 "$@")
+program() (
+    [ -z "${L1_PROGRAM:-}" ] || exec "$L1_PROGRAM" "$@"
+    exec_program target/bin/l1 "$@"
+)
 
 # same COMMAND [WORDS..]: whether a command does well and writes the bytes of the file $kept.
 same() {
@@ -47,6 +50,6 @@ same() {
 # front: the dialogue of tests/panel/front.in gives the answers that are kept beside it. One of its decks is too long to be kept.
 front() {
     head -c 70000 /dev/zero | tr '\0' 1 >"$made/long.deck"
-    run_c front <tests/panel/front.in >"$made/front.out" || return 1
+    run_c "front${face:-}" <tests/panel/front.in >"$made/front.out" || return 1
     cmp tests/panel/front.out "$made/front.out" && echo "front: $(grep -c . tests/panel/front.in) lines, answered as kept"
 }

@@ -5,31 +5,61 @@
 #   rooms     a run whose cards do not fit one room, against cards that are made here
 #   foreign   machine files that differ in unmarked cells alone: the same outputs, and these cells as they were
 #   refused   files and outputs that cannot be written: the machine file stays as it was, and no new file is left beside it
+#   modes     a machine file is its owner's alone, when it is made and when it is replaced, whatever the old one's rights are
+#   order     the calls of the system in their order: cards, the new file whole and flushed, its new name, the Z card
 #   stopped   killed before, in and after each of its calls of the system, and with each of them failing: the machine file is the old
 #             or the new one, byte for byte
 #   killed    the same, killed after many times
+# L1_PROGRAM names another program to be checked, for tests/self.sh, which sees that a check can fail.
 set -u
 root=$(cd "$(dirname "$0")/.." && pwd -P) || exit 2
 . "$root/tests/kit.sh"
 part=$1
-here=$made/tool-$part
+here=$made/tool-$part${L1_PROGRAM:+-tried}
 rm -rf "$here"
 mkdir -p "$here" && cd "$here" || exit 2
 cp "$root"/tests/tool/decks/* .
 
-l1() (exec_program "$root/target/bin/l1" "$@")
+# become WORDS..: becomes the program.
+become() {
+    [ -z "${L1_PROGRAM:-}" ] || exec "$L1_PROGRAM" "$@"
+    exec_program "$root/target/bin/l1" "$@"
+}
+
+l1() (become "$@")
 
 fail() {
     printf 'tool: %s: %s\n' "$part" "$*"
     exit 1
 }
 
-# same WHAT FILE FILE
-same() { cmp -s "$2" "$3" || fail "$1: $2 and $3 differ"; }
+# same WHAT FILE FILE: both are there, with something in them, and have the same bytes.
+same() {
+    [ -s "$2" ] || fail "$1: $2 is missing or empty"
+    same_said "$@"
+}
 
-# The cells of a machine file, its marks, one to a line.
-cells_of() { od -An -v -tu8 -N8000 "$1" | tr -s ' ' '\n' | sed '/^$/d'; }
-marks_of() { od -An -v -tu1 -j8000 -N1000 "$1" | tr -s ' ' '\n' | sed '/^$/d'; }
+# same_said WHAT FILE FILE: what two calls said, which may be nothing.
+same_said() { cmp -s "$2" "$3" || fail "$1: $2 and $3 differ"; }
+
+# made_machine FILE [CELLS]: a new machine file.
+made_machine() {
+    l1 new "$@" || fail "new $*: ended badly"
+    is_machine "$1" || fail "new $*: no machine file"
+}
+
+is_machine() { [ -f "$1" ] && [ "$(wc -c <"$1")" -eq 9072 ]; }
+
+# loaded FILE DECK [WORDS..]: a load that does its work: nothing is said, and the location of the machine file is the deck's first order.
+loaded() {
+    l1 load "$@" >load.out 2>load.err || fail "load $*: ended badly"
+    [ ! -s load.out ] && [ ! -s load.err ] || fail "load $*: $(cat load.out load.err)"
+    [ "$(location_of "$1")" = "$(first_of "$2")" ] || fail "load $*: nothing is loaded"
+}
+
+# The location in a machine file; the first order that the first-order card of a deck has.
+location_of() { od -An -v -tu8 -j9000 -N8 "$1" | tr -d ' '; }
+first_of() { sed -n 's/.*T\([0-9]\{3\}\).*/\1/p' "$1" | sed 's/^0*//'; }
 
 # A text of 1,000 numbers of up to 20 digits, most of them no words, drawn from a seed.
 drawn_cells() {
@@ -123,7 +153,8 @@ rooms() {
     done
     # the same in two calls on a machine file
     { traced 2000; } >expected
-    l1 new two.machine && l1 load two.machine ever.deck traced || fail 'no machine file'
+    made_machine two.machine
+    loaded two.machine ever.deck traced
     l1 run two.machine ever.deck budget=900 >first && l1 run two.machine ever.deck budget=1100 >second
     { head -c $((900 * 77)) first; head -c $((1100 * 77)) second; } >out
     same 'two calls' expected out
@@ -141,53 +172,69 @@ rooms() {
 
 # ---- foreign
 
-# kept BEFORE AFTER: each cell that is unmarked after is as it was before.
-kept() {
-    cells_of "$1" >cells.before
-    cells_of "$2" >cells.after
-    marks_of "$2" >marks.after
-    paste marks.after cells.before cells.after | awk '$1 == 0 && $2 != $3 { bad = 1 } END { exit bad }'
+# dumped SIDE: the cells and the marks of SIDE.machine, one to a line; those of before the call stay beside them.
+dumped() {
+    is_machine "$1.machine" || fail "$1.machine is no machine file"
+    od -An -v -tu8 -w8 -N8000 "$1.machine" >"$1.cells"
+    od -An -v -tu1 -w1 -j8000 -N1000 "$1.machine" >"$1.marks"
 }
 
-# alike ONE OTHER: the marks and the states are the same, and so is each marked cell.
-alike() {
-    cells_of "$1" >cells.one
-    cells_of "$2" >cells.other
-    marks_of "$1" >marks.one
-    marks_of "$2" >marks.other
-    cmp -s marks.one marks.other &&
-        paste marks.one cells.one cells.other | awk '$1 == 1 && $2 != $3 { bad = 1 } END { exit bad }' &&
-        [ "$(tail -c 72 "$1" | od -An -tu8)" = "$(tail -c 72 "$2" | od -An -tu8)" ]
+# unseen: of both sides each cell that is unmarked now was so before the call and holds what it held, and there are such cells. Between the
+# sides all marks are the same, and all marked cells; the state too; and there are unmarked cells that differ.
+unseen() {
+    paste one.marks.before one.cells.before one.marks one.cells other.marks.before other.cells.before other.marks other.cells | awk '
+        $3 == 0 && ($1 != 0 || $2 "" != $4 "") || $7 == 0 && ($5 != 0 || $6 "" != $8 "") { bad = 1 }
+        $3 != $7 || $3 == 1 && $4 "" != $8 "" { bad = 1 }
+        $3 == 0 && $4 "" != $8 "" { n++ }
+        END { exit bad || NR != 1000 || !n }' && [ "$(tail -c 72 one.machine | od -An -tu8)" = "$(tail -c 72 other.machine | od -An -tu8)" ]
+}
+
+# ends_in_z FILE: its last 24 bytes are a Z card. is_refusal FILE: it is the line of a refused call.
+ends_in_z() { tail -c 24 "$1" | grep -qE '^Z[0-9]{12}[+-][0-9]{10}$'; }
+is_refusal() { grep -qE '^1[012] [0-9]+$' "$1"; }
+
+# happened WORDS..: what the call on one.machine, one.before before it, was for has been done, or was refused.
+happened() {
+    if is_refusal one.out; then
+        cmp -s one.before one.machine || return 1
+        refusals=$((refusals + 1))
+    else
+        case $1 in
+        load) [ "$(location_of one.machine)" = "$(first_of d.deck)" ] && loads=$((loads + 1)) ;;
+        run) ends_in_z one.out && runs=$((runs + 1)) ;;
+        cells) [ "$(wc -l <one.out)" -eq "$(grep -c 1 one.marks)" ] && shows=$((shows + 1)) ;;
+        esac
+    fi
 }
 
 # twice WORDS..: the call on the one machine file and on the other, each under the same name.
 twice() {
     for side in one other; do
-        cp "$side.machine" "$side/m.machine"
-        cp "$side.machine" "$side.before"
+        cp "$side.machine" "$side/m.machine" && cp "$side.machine" "$side.before" || fail "l1 $*: no machine file"
+        mv "$side.cells" "$side.cells.before" && mv "$side.marks" "$side.marks.before" || fail "l1 $*: no cells"
         (cd "$side" && l1 "$@") >"$side.out" 2>"$side.err"
-        cp "$side/m.machine" "$side.machine"
-        kept "$side.before" "$side.machine" || fail "l1 $*: an unmarked cell was changed"
+        cp "$side/m.machine" "$side.machine" || fail "l1 $*: no machine file is left"
+        dumped "$side"
     done
-    same "l1 $*" one.out other.out
-    same "l1 $*" one.err other.err
-    alike one.machine other.machine || fail "l1 $*: the machine files differ in more than unmarked cells"
-    calls=$((calls + 1))
+    same_said "l1 $*" one.out other.out
+    same_said "l1 $*" one.err other.err
+    unseen || fail "l1 $*: an unmarked cell was changed, or the machine files differ in more than unmarked cells"
+    happened "$@" || fail "l1 $*: what it is for has not happened"
 }
 
 foreign() {
-    calls=0
+    loads=0 runs=0 shows=0 refusals=0 good=0 bad=0
     mkdir one other
     for deck in *.deck "$root"/examples/*.deck; do
-        [ -e "$deck" ] || continue
-        cp "$deck" d.deck
-        rm -f one.machine other.machine one/* other/*
-        cp d.deck one/d.deck
-        cp d.deck other/d.deck
+        case ${deck##*/} in bad.deck | nofirst.deck) bad=$((bad + 1)) ;; *) good=$((good + 1)) ;; esac
+        cp "$deck" d.deck && cp d.deck one/d.deck && cp d.deck other/d.deck || fail "no deck $deck"
+        rm -f one.machine other.machine one/m.machine other/m.machine
         drawn_cells 1 >one.text
         drawn_cells 2 >other.text
-        for side in one other; do l1 new $side.machine $side.text || fail 'no machine file'; done
-        cmp -s one.machine other.machine && fail 'the machine files do not differ'
+        for side in one other; do
+            made_machine "$side.machine" "$side.text"
+            dumped "$side"
+        done
         twice run m.machine d.deck
         for mode in '' traced; do
             # shellcheck disable=SC2086
@@ -200,13 +247,18 @@ foreign() {
             twice cells m.machine
         done
     done
-    echo "tool: $calls calls on two machine files each"
+    # of each deck two loads, with six runs and two listings behind each; refused are the run before the first load, and all of a bad deck
+    [ "$good" -gt 9 ] && [ "$bad" -eq 2 ] && [ "$loads" -eq $((2 * good)) ] && [ "$runs" -eq $((12 * good)) ] &&
+        [ "$shows" -eq $((4 * (good + bad))) ] && [ "$refusals" -eq $((good + bad + 14 * bad)) ] ||
+        fail "$good good decks and $bad bad: $loads loads, $runs runs, $shows listings, $refusals refusals"
+    echo "tool: $loads loads, $runs runs, $shows listings and $refusals refused calls on two machine files each"
 }
 
 # ---- refused
 
 # stays WHAT: the machine file is as it was, nothing is left beside it, and something was said.
 stays() {
+    is_machine m.machine || fail "$1: no machine file"
     same "$1" old.machine m.machine
     [ "$(ls | grep -c 'new-')" -eq 0 ] || fail "$1: a new file is left"
     [ -s err ] || fail "$1: nothing was said"
@@ -216,14 +268,16 @@ stays() {
 # As a user whom the rights of a folder bind.
 bound() (
     if [ "$(id -u)" -eq 0 ]; then drop='setpriv --reuid=65534 --regid=65534 --clear-groups'; fi
+    # shellcheck disable=SC2086
+    [ -z "${L1_PROGRAM:-}" ] || exec ${drop:-} "$@"
     exec_program "$@"
 )
 
 refused() {
     tried=0
     punch_deck >punch.deck
-    l1 new m.machine || fail 'no machine file'
-    l1 load m.machine sum.deck || fail 'no load'
+    made_machine m.machine
+    loaded m.machine sum.deck
     cp m.machine old.machine
     l1 run m.machine sum.deck >/dev/full 2>err
     stays 'a full disk for the cards'
@@ -236,22 +290,26 @@ refused() {
         grep -q 'not replaced' err || fail 'what was said'
         grep -q Z out && fail 'a Z card all the same'
     done
-    l1 load m.machine punch.deck && cp m.machine old.machine
+    loaded m.machine punch.deck
+    cp m.machine old.machine
     l1 run m.machine punch.deck budget=30 2>err | head -c 1 >out
     [ -s err ] || echo 'ended by the system' >err
     stays 'an output that nobody reads'
     # a Z card that cannot be written, after cards that could not be missed: the file is the new one, and that is said
-    l1 load m.machine pause.deck && cp m.machine old.machine
+    loaded m.machine pause.deck
+    cp m.machine old.machine
     l1 run m.machine pause.deck >/dev/full 2>err
+    is_machine m.machine || fail 'no machine file'
     cmp -s old.machine m.machine && fail 'the machine file is not replaced though no card was lost'
     grep -q 'replaced, but its Z card' err || fail 'what was said of the Z card'
     # a stale new file of a killed call is in no one's way
-    l1 load m.machine sum.deck && : >m.machine.new-AAAAAA && l1 run m.machine sum.deck >out 2>err
+    loaded m.machine sum.deck
+    : >m.machine.new-AAAAAA && l1 run m.machine sum.deck >out 2>err
     [ "$(cat out)" = '10001202+3000000050007Z000103000003+3000000050' ] || fail 'a stale new file is in the way'
     rm m.machine.new-AAAAAA
     # a folder in which no file can be made
     free=$(mktemp -d) && mkdir "$free/closed" || exit 2
-    cp "$root/target/bin/l1" "$free/program"
+    cp "${L1_PROGRAM:-$root/target/bin/l1}" "$free/program"
     cp m.machine sum.deck "$free/closed"
     chmod 755 "$free" "$free/program" && chmod 666 "$free"/closed/* && chmod 555 "$free/closed"
     for words in 'load m.machine sum.deck' 'run m.machine sum.deck'; do
@@ -272,6 +330,61 @@ refused() {
     echo "tool: $((tried + 4)) calls that could not write"
 }
 
+# ---- modes
+
+# is_private FILE: no one but its owner may read or write it.
+is_private() { [ "$(stat -c %a "$1")" = 600 ]; }
+
+modes() {
+    umask 0
+    made_machine m.machine
+    is_private m.machine || fail 'new'
+    for words in 'load m.machine sum.deck' 'run m.machine sum.deck'; do
+        for mode in 600 644 666; do
+            chmod "$mode" m.machine && cp m.machine old.machine
+            # shellcheck disable=SC2086
+            l1 $words >out 2>err || fail "$words: ended badly"
+            [ "$mode" != 600 ] || ! cmp -s old.machine m.machine || fail "$words: changes nothing"
+            is_private m.machine || fail "$words: mode $(stat -c %a m.machine) over $mode"
+        done
+    done
+    echo 'tool: 7 machine files for their owner alone'
+}
+
+# ---- order
+
+# told WORDS..: the names of the program's calls of the system, in their order, one name for several in a row; a write to an output by the
+# output's name.
+told() {
+    (before=$made/stop.so && export before L1_TOLD=1 && l1 "$@") >out 2>err 8>names 9>count || fail "l1 $*: ended badly"
+    [ -s names ] || fail "l1 $*: no call of the system"
+    uniq <names | tr '\n' ' '
+}
+
+# in_order WORDS.. = NAMES
+in_order() {
+    words=''
+    while [ "$1" != = ]; do
+        words="$words $1"
+        shift
+    done
+    shift
+    # shellcheck disable=SC2086
+    found=$(told $words)
+    [ "$found" = "$* " ] || fail "l1$words: $found"
+}
+
+order() {
+    build_before stop.so "$root/tests/tool/stop.c" || fail 'no library'
+    in_order new m.machine = open fchmod write fsync close
+    in_order load m.machine sum.deck = readlink open read close open read close mkstemp write fsync close rename
+    in_order run m.machine sum.deck = readlink open read close open read close cards mkstemp write fsync close rename cards
+    in_order run m.machine sum.deck = readlink open read close open read close mkstemp write fsync close rename cards
+    in_order cells m.machine = open read close cards
+    in_order session sum.deck = open read close cards
+    echo 'tool: 6 calls, what they ask of the system in its order'
+}
+
 # ---- stopped
 
 # whole WHAT: the machine file is the old or the new one.
@@ -285,47 +398,97 @@ whole() {
     fi
 }
 
-# each_call WORDS..: on the file old.machine as m.machine.
-each_call() {
-    cp old.machine m.machine
+# counted WORDS..: how many calls of the system this call makes; its outputs in new.out and err.
+counted() {
     (before=$made/stop.so && l1 "$@") >new.out 2>err 9>count || fail "l1 $*: ended badly"
-    cp m.machine new.machine
-    cmp -s old.machine new.machine && fail "l1 $*: changes nothing"
     count=$(cat count)
-    was_old=0 was_new=0 k=0
+    [ "${count:-0}" -gt 4 ] || fail "l1 $*: ${count:-no} calls of the system"
+}
+
+# each_moment COMMAND WORDS..: the command with k, the number of a call of the system, and how, for each call that `l1 WORDS` makes.
+each_moment() {
+    judge=$1 k=0
+    shift
     while [ "$k" -lt "$count" ]; do
         k=$((k + 1))
         for how in b a h f; do
-            cp old.machine m.machine
-            (before=$made/stop.so && export before L1_STOP=$k L1_HOW=$how && l1 "$@") >out 2>err
-            whole "l1 $*: call $k of $count, $how"
+            "$judge" "$@"
             stops=$((stops + 1))
-            if [ "$how" = f ]; then
-                [ "$was" = new ] || [ -s err ] || fail "l1 $*: call $k fails: nothing was said"
-                [ "$was" = new ] || ! grep -q Z out || fail "l1 $*: call $k fails: a Z card, and the old file"
-                [ "$(ls | grep -c 'new-')" -eq 0 ] || fail "l1 $*: call $k fails: a new file is left"
-            fi
-            rm -f m.machine.new-*
         done
     done
+}
+
+# stopped_at WORDS..: l1 WORDS, stopped at call k.
+stopped_at() { (before=$made/stop.so && export before L1_STOP=$k L1_HOW=$how && l1 "$@") >out 2>err; }
+
+# on_old WORDS..: one moment of a call on the file old.machine as m.machine.
+on_old() {
+    cp old.machine m.machine
+    stopped_at "$@"
+    whole "l1 $*: call $k of $count, $how"
+    if [ "$how" = f ]; then
+        [ "$was" = new ] || [ -s err ] || fail "l1 $*: call $k fails: nothing was said"
+        [ "$was" = new ] || ! grep -q Z out || fail "l1 $*: call $k fails: a Z card, and the old file"
+        [ "$(ls | grep -c 'new-')" -eq 0 ] || fail "l1 $*: call $k fails: a new file is left"
+    fi
+    rm -f m.machine.new-*
+}
+
+# each_call WORDS..: on the file old.machine as m.machine.
+each_call() {
+    cp old.machine m.machine
+    counted "$@"
+    is_machine m.machine && cp m.machine new.machine || fail "l1 $*: no machine file"
+    cmp -s old.machine new.machine && fail "l1 $*: changes nothing"
+    was_old=0 was_new=0
+    each_moment on_old "$@"
     [ "$was_old" -gt 0 ] && [ "$was_new" -gt 0 ] || fail "l1 $*: old $was_old times, new $was_new times"
-    # writes that take a few bytes each
+    # reads and writes of a few bytes each
     cp old.machine m.machine
     (before=$made/stop.so && export before L1_SHORT=100 && l1 "$@") >out 2>err 9>count
     same "l1 $*: short writes" new.machine m.machine
-    same "l1 $*: short writes" new.out out
+    same_said "l1 $*: short writes" new.out out
     old=$((old + was_old)) new=$((new + was_new))
+}
+
+# on_none WORDS..: one moment of a call that makes m.machine: there is none, or a whole one, or, where the call was killed within its one
+# write, one that every command refuses. A call that fails leaves none, and says so, or a whole one.
+on_none() {
+    rm -f m.machine
+    stopped_at "$@"
+    if [ ! -e m.machine ]; then
+        was_old=$((was_old + 1))
+        [ "$how" != f ] || [ -s err ] || fail "l1 $*: call $k fails: nothing was said"
+    elif cmp -s m.machine new.machine; then
+        was_new=$((was_new + 1))
+    else
+        [ "$how" != f ] && [ "$(l1 cells m.machine)" = '10 0' ] || fail "l1 $*: call $k of $count, $how: a file that is not whole"
+        was_short=$((was_short + 1))
+    fi
+}
+
+# each_new WORDS..: new m.machine, where there is no such file.
+each_new() {
+    rm -f m.machine
+    counted "$@"
+    is_machine m.machine && cp m.machine new.machine || fail "l1 $*: no machine file"
+    was_old=0 was_new=0 was_short=0
+    each_moment on_none "$@"
+    [ "$was_old" -gt 0 ] && [ "$was_new" -gt 0 ] && [ "$was_short" -gt 0 ] || fail "l1 $*: none $was_old, whole $was_new, short $was_short times"
 }
 
 stopped() {
     old=0 new=0 stops=0
     build_before stop.so "$root/tests/tool/stop.c" || fail 'no library'
     punch_deck >punch.deck
-    l1 new old.machine || fail 'no machine file'
+    drawn_cells 3 >cells.text
+    each_new new m.machine
+    each_new new m.machine cells.text
+    made_machine old.machine
     each_call load m.machine sum.deck
     cp new.machine old.machine
     each_call run m.machine sum.deck
-    l1 load old.machine punch.deck || fail 'no load'
+    loaded old.machine punch.deck
     each_call run m.machine punch.deck budget=20
     echo "tool: stopped $stops times, the old file $old times, the new one $new times"
 }
@@ -337,7 +500,7 @@ killed_at() {
     delay=$1
     shift
     cp old.machine m.machine
-    (exec_program "$root/target/bin/l1" "$@" >out 2>err) &
+    (become "$@" >out 2>err) &
     pid=$!
     sleep "$delay"
     kill -9 "$pid" 2>/dev/null
@@ -352,7 +515,7 @@ moments() {
     began=$(date +%s%N)
     l1 "$@" >out 2>err
     took=$((($(date +%s%N) - began) / 1000))
-    cp m.machine new.machine
+    is_machine m.machine && cp m.machine new.machine || fail "l1 $*: no machine file"
     cmp -s old.machine new.machine && fail "l1 $*: changes nothing"
     for k in $(awk -v took="$took" 'BEGIN { for (i = 0; i < 400; i++) printf "%.6f\n", took * i * 0.014 / 1000000 }'); do
         killed_at "$k" "$@"
@@ -365,7 +528,7 @@ moments() {
 
 killed() {
     old=0 new=0
-    l1 new old.machine || fail 'no machine file'
+    made_machine old.machine
     moments load m.machine sum.deck
     cp new.machine old.machine
     moments run m.machine sum.deck
@@ -373,7 +536,7 @@ killed() {
 }
 
 case $part in
-answers | rooms | foreign | refused | stopped | killed) "$part" ;;
+answers | rooms | foreign | refused | modes | order | stopped | killed) "$part" ;;
 *)
     echo "tool: $part is no part" >&2
     exit 2

@@ -1,0 +1,64 @@
+#!/bin/sh
+# Sees that the checks can fail: each is tried with programs, and with libraries behind the C face, that do nothing or refuse every call,
+# and must fail with each. Behind the builds of tests/all, whose programs it uses.
+set -u
+cd "$(dirname "$0")/.." || exit 2
+. tests/kit.sh
+. tests/recorded.sh
+. tests/checks.sh
+seed=1 tried=0 blind=0
+
+# fails WHAT COMMAND [WORDS..]: the command must not do well.
+fails() {
+    what=$1
+    shift
+    tried=$((tried + 1))
+    ("$@") >"$made/self.log" 2>&1 || return 0
+    blind=$((blind + 1))
+    echo "self: $what: the check does well"
+}
+
+# with_rt COMMAND: the command with an rt that ends well and counts nothing.
+with_rt() (
+    rt() { :; }
+    "$1"
+)
+
+# with_edit_lost COMMAND: the command where one wrong program more is expected than there is.
+with_edit_lost() (
+    rm -rf "$made/lost" && mkdir -p "$made/lost/tests" && cp crates.txt "$made/lost" && ln -s "$(pwd -P)/crates" "$made/lost/crates"
+    awk 'NR == 1 { $2++ } { print }' tests/expected >"$made/lost/tests/expected"
+    cd "$made/lost" && "$1"
+)
+
+# no_difference KIND: the judge counts none on a few cases; that they are too few to reach everything is not what is asked.
+no_difference() {
+    compare driver "$1" 500 >"$made/judge.log" 2>&1
+    ! grep -q "^$1: 500 .*, [1-9][0-9]* differences" "$made/judge.log"
+}
+
+fails 'rt ci says nothing' with_rt proofs
+fails 'a wrong program is lost' with_edit_lost expected
+for program in nothing refuses refuses-work; do
+    export L1_PROGRAM="$PWD/tests/self/$program"
+    for part in answers rooms foreign refused modes order stopped killed; do fails "tool-$part, $program" tests/tool.sh "$part"; done
+    fails "recorded, $program" recorded
+    fails "door, $program" env L1_DOOR="$L1_PROGRAM" sh -c '. tests/kit.sh && . tests/checks.sh && door'
+done
+unset L1_PROGRAM
+for stub in idle refusing silent; do
+    for name in cases driver front; do
+        if [ "$stub" = silent ]; then
+            build_c "$name-$stub" panel tests/self/silent.c
+        else
+            build_c "$name-$stub" panel "tests/panel/$name.c" "tests/self/$stub.c"
+        fi || exit 2
+    done
+    face=-$stub
+    fails "table, $stub" table
+    fails "front, $stub" front
+    fails "recorded, $stub" recorded
+    for kind in numbers decks sessions; do fails "$kind, $stub" no_difference "$kind"; done
+done
+echo "self: $tried checks tried with what does not work, $blind do not see it"
+[ "$blind" -eq 0 ]

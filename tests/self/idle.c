@@ -1,0 +1,3 @@
+/* Does nothing. */
+#define ANSWER 0
+#include "face.h"

@@ -1,0 +1,3 @@
+/* Refuses every call. */
+#define ANSWER 12
+#include "face.h"

@@ -1,0 +1,2 @@
+/* Answers nothing at all. */
+int main(void) { return 0; }
