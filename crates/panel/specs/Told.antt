@@ -1,8 +1,7 @@
 -- What a C program is told of each answer: the paper's number for it, and the value that goes with it. Assumes nothing.
-use Rattle.rules.specs.Numbers.{reckonedNumber, reckonedWord, deckNumber, deckPlace}
+use Rattle.rules.specs.Numbers.{reckonedNumber, reckonedWord, checkNumber, checkPlace}
 use Rattle.rules.specs.declared.Reckoned.{Reckoned}
 use Rattle.rules.specs.declared.Deck.{Deck}
-use Rattle.rules.specs.declared.Deck.the-variants.{Good, Faulty}
 use Rattle.panel.specs.declared.Word.{Word}
 use Rattle.panel.specs.declared.Place.{Place}
 
@@ -12,5 +11,4 @@ wordTold x = record { number = reckonedNumber x; word = reckonedWord x }
 
 -- of the check of a deck: 0 and 0, or the number of a faulty deck and the place of its first fault
 abbrev pub placeTold : Deck → Place
-placeTold (Good behind order problem) = record { number = 0; place = 0 }
-placeTold (Faulty f) = record { number = deckNumber f; place = deckPlace f }
+placeTold x = record { number = checkNumber x; place = checkPlace x }

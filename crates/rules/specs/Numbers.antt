@@ -10,8 +10,13 @@ use Rattle.rules.specs.declared.Outcome.{Outcome}
 use Rattle.rules.specs.declared.Stop.{Stop}
 use Rattle.rules.specs.declared.Stop.the-variants.{Unconditional, Conditional}
 use Rattle.rules.specs.declared.Outcome.the-variants.{GoesOn, Stops, Undone}
+use Rattle.rules.specs.declared.Fault.{Fault}
+use Rattle.rules.specs.declared.Card.{Card}
+use Rattle.rules.specs.declared.Card.the-variants.{Data, First, Bad, End}
 use Rattle.rules.specs.declared.DeckFault.{DeckFault}
 use Rattle.rules.specs.declared.DeckFault.the-variants.{TooLong, At, NoFirst}
+use Rattle.rules.specs.declared.Deck.{Deck}
+use Rattle.rules.specs.declared.Deck.the-variants.{Good, Faulty}
 use Rattle.rules.specs.declared.Bar.{Bar}
 use Rattle.rules.specs.declared.Bar.the-variants.{BadDrum, BadDeck, BadState}
 use Rattle.rules.specs.declared.Ending.{Ending}
@@ -80,16 +85,35 @@ triesAgain (Stops k w) = stays k
 triesAgain GoesOn = false
 triesAgain (Undone r) = true
 
+-- What is at a place of a deck: 0 for a card, and for the deck's end. Every fault has the one number.
+abbrev pub faultNumber : Fault → ℕ
+faultNumber f = 11
+
+abbrev pub cardNumber : Card → ℕ
+cardNumber (Data number location words problem size) = 0
+cardNumber (First order problem) = 0
+cardNumber (Bad f b) = faultNumber f
+cardNumber End = 0
+
 -- A faulty deck. Every fault of a card is told at the card's kind byte.
 abbrev pub deckNumber : DeckFault → ℕ
 deckNumber TooLong = 11
-deckNumber (At p f b) = 11
+deckNumber (At p f b) = faultNumber f
 deckNumber (NoFirst p) = 11
 
 abbrev pub deckPlace : DeckFault → ℕ
 deckPlace TooLong = 65536
 deckPlace (At p f b) = p
 deckPlace (NoFirst p) = p
+
+-- a deck as checked: 0 and 0 where it is good
+abbrev pub checkNumber : Deck → ℕ
+checkNumber (Good behind order problem) = 0
+checkNumber (Faulty f) = deckNumber f
+
+abbrev pub checkPlace : Deck → ℕ
+checkPlace (Good behind order problem) = 0
+checkPlace (Faulty f) = deckPlace f
 
 -- a call refused at its entry
 abbrev pub barNumber : Bar → ℕ
