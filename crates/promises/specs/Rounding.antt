@@ -62,3 +62,9 @@ FractionRounds = (f : Form) → 0 < f .digits → (p q : ℕ) → 0 < q → Roun
 -- The root of n is rounded once, for n as large as the form's roots can be asked for.
 abbrev pub RootRounds : Type 0
 RootRounds = (f : Form) → 0 < f .digits → (n : ℕ) → 4 * n < 4 ^ (7 * f .exponents) → Rounds f (ofRoot n) (rootHalves f n)
+
+-- A root is never just half way between m and m + 1 units, so that no half comes up: twice the root of a number of the form, digits n and
+-- any power of ten, is not m units and m + 1 units together, for m of as many digits.
+abbrev pub RootNeverHalf : Type 0
+RootNeverHalf = (f : Form) → 0 < f .digits → (n k e m : ℕ) → n < 10 ^ f .digits → 10 ^ (f .digits - 1) ≤ m
+    → (m * 10 ^ e + (m + 1) * 10 ^ e) * (m * 10 ^ e + (m + 1) * 10 ^ e) ≡ 4 * (n * 10 ^ k) → ⊥
