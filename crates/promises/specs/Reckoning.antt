@@ -46,6 +46,7 @@ pub record Order : Type 1 where
   pub sign : ℕ
   pub exact : Magnitude
 
+-- it is none of 24, 25 and 26
 abbrev pub Taken : Order → Type 0
 Taken o = o .numbers × (o .zeroDivisor → ⊥) × (o .negativeRoot → ⊥)
 

@@ -3,13 +3,13 @@
 use Prim.Native.Nat.{ℕ}
 use Prim.Native.String.{String}
 use mathlib.Core.Path.{_≡_}
-use mathlib.Core.List.{List, [], _∷_, map}
+use mathlib.Core.List.{List, [], _∷_, _++_, map}
 use mathlib.Core.Bool.{Bool, true, false}
 use lib.ListN.{replicate}
 use Rattle.rules.specs.Bytes.{bytes}
 use Rattle.rules.specs.Running.{RunResult, ran}
 use Rattle.rules.specs.Loads.{LoadResult, loaded}
-use Rattle.rules.specs.Sheet.{sheet, barLine}
+use Rattle.rules.specs.Sheet.{sheet, loadLine}
 use Rattle.rules.specs.States.{noState}
 use Rattle.rules.specs.declared.Loading.{Loading}
 use Rattle.rules.specs.declared.Loading.the-variants.{Loaded, NotLoaded}
@@ -36,13 +36,13 @@ abbrev pub runIn : Worked → LoadResult → RunResult
 runIn w x =
     ran (runOf (x .drum) (x .marks) (bytes (w .deck)) (replicate (w .room) 0) (x .state) (w .budget) (record { stop = w .stop }))
 
--- a refused load is told by its line
-abbrev pub sheetAfter : Worked → LoadResult → Loading → List ℕ
-sheetAfter w x Loaded = sheet (runIn w x)
-sheetAfter w x (NotLoaded b) = barLine b
+-- a refused load is told by its line, and there is no run
+abbrev pub runLines : Worked → LoadResult → Loading → List ℕ
+runLines w x Loaded = sheet (runIn w x)
+runLines w x (NotLoaded b) = []
 
 abbrev pub sheetOf : Worked → List ℕ
-sheetOf w = let x = loadIn w in sheetAfter w x (x .loading)
+sheetOf w = let x = loadIn w in loadLine (x .loading) ++ runLines w x (x .loading)
 
 -- READ of 010 to 012 meets a card that fits and then one that does not
 unfoldable pub misfit : Worked
