@@ -29,8 +29,9 @@ pub data Settled : Type 0 where
   outside : Settled
 
 -- A magnitude is counted in a unit so fine that no exact result but zero is too small for its digits there: the unit of an exponent as far
--- below 0 as there are exponents. It is given by its halves: twice the magnitude, cut to a whole number. Rounding needs to know no more than that, be the
--- magnitude whole, a fraction or a root: it reaches k and a half units just where its halves reach 2 k + 1 units, a whole number.
+-- below 0 as there are exponents. It is given by its halves: twice the magnitude, cut to a whole number. Rounding needs to know no more
+-- than that, be the magnitude whole, a fraction or a root: it reaches k and a half units just where its halves reach 2 k + 1 units, a
+-- whole number.
 --
 -- P3 worked, 1/3 in the form `single`: 1 is 10 ^ 157 fine units, so the halves are 2 * 10 ^ 157 / 3 cut, 157 sixes. At the place 149
 -- eight of them are left, and the nearest is (66666666 + 1) / 2 = 33333333, of eight digits; at 148 it is 333333333, of nine. So the place
