@@ -5,6 +5,7 @@ pub mod Kept
 pub mod Undone
 pub mod Counting
 pub mod Rounding
+pub mod Due
 pub mod Reckoning
 pub mod Cards
 pub mod Worked

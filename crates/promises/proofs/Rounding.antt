@@ -1,16 +1,17 @@
 -- Fractions and roots are rounded once, in any form: their halves know all that rounding asks. Assumes nothing.
-use Prim.Native.Nat.{ℕ, suc, _+_, _-_, _*_, _^_, _≤_, _<_}
+use Prim.Native.Nat.{ℕ, zero, suc, _+_, _-_, _*_, _^_, _≤_, _<_}
 use mathlib.Core.Path.{_≡_, sym, ap, subst, _∙_}
-use native.Mathlib.Nat.{lt-of-not-le, mul-le-mul, mul-le-mul-right, le-div-iff-mul-le, pow-suc}
+use native.Mathlib.Nat.{lt-of-not-le, eq-of-mul-eq-mul-right, mul-assoc, mul-le-mul, mul-le-mul-left, mul-le-mul-right, le-div-iff-mul-le, pow-suc}
 use native.Mathlib.Decide.{decLe}
 use native.Mathlib.Omega.{arith}
+use lib.Pow.{pow-add}
 use Rattle.rules.specs.Rounding.{Form, nought, value, outside, nearest, placed, settled, fraction, rootHalves}
 use Rattle.rules.specs.Rounded.{Rounded, RootCut}
-use Rattle.rules.proofs.Nearest.{ten-above, ten-rises, nearest-reached, nearest-is, Right, one-place}
-use Rattle.rules.proofs.Rounded.{filled, tenth-filled, rounded-first}
-use Rattle.rules.proofs.Rounding.{placed-within, placed-below, placed-above, settled-none, settled-at, Answer, answered}
+use Rattle.rules.proofs.Nearest.{ten-above, ten-rises, nearest-reached, nearest-not-passed, nearest-is, Right, one-place, some-right}
+use Rattle.rules.proofs.Rounded.{filled, tenth-filled, rounded-first, right-rounded}
+use Rattle.rules.proofs.Rounding.{placed-within, placed-below, placed-above, settled-none, settled-zero, settled-at, Answer, answered}
 use Rattle.rules.proofs.Roots.{no-larger, root-below}
-use Rattle.promises.specs.Rounding.{Magnitude, ofFraction, ofRoot, RoundedTo, Number, Rounds, FractionRounds, RootRounds}
+use Rattle.promises.specs.Rounding.{Magnitude, ofFraction, ofRoot, RoundedTo, Number, Somewhere, Rounds, FractionRounds, RootRounds, RootNeverHalf}
 
 -- what is used of the halves of a magnitude
 record Halves (x : Magnitude) (h : ℕ) : Type 0 where
@@ -83,6 +84,28 @@ module _ (f : Form) (some : 0 < f .digits) (x : Magnitude) (h : ℕ) (w : Halves
             (by-halves k m (subst (λ (j : ℕ). Rounded (f .digits) h (10 ^ j) m) e (z .rounded)));
       }
 
+  -- the right place has digits that are rounded; at the lowest place the magnitude must be large enough
+  some-place : x 10 (2 * 10 ^ f .digits - 1) → Somewhere (f .digits) x
+  some-place large = at (some-right (f .digits) h .place) (some-right (f .digits) h .right)
+    where
+      at : (e : ℕ) → Right (f .digits) h e → Somewhere (f .digits) x
+      at zero r =
+          let m : ℕ = nearest h 0 in
+          let low : 2 * (m * 10 ^ 0) - 10 ^ 0 ≤ h = omega (arith, nearest-reached h 0) in
+          record {
+            place = 0;
+            digits = m;
+            rounded =
+                record {
+                  atLeast = w .reach (2 * (m * 10 ^ 0) - 10 ^ 0) low;
+                  below = λ y. omega (arith, w .reached (2 * (m * 10 ^ 0) + 10 ^ 0) y, nearest-not-passed h 0);
+                  fits = r .enough;
+                  full = subst (x 10) (omega arith) large;
+                };
+          }
+      at (suc k) r =
+          record { place = suc k; digits = nearest h (suc k); rounded = by-halves k (nearest h (suc k)) (right-rounded (f .digits) h k r) }
+
   -- a magnitude that has not d digits at the lowest place
   small : (s : ℕ) → x 1 1 → (x 10 (2 * 10 ^ f .digits - 1) → ⊥) → settled f s h ≡ outside
   small s one few = settled-at f s h 0 (w .reached 1 one) lowest ∙ judged (decLe (f .exponents) 0)
@@ -112,6 +135,7 @@ module _ (f : Form) (some : 0 < f .digits) (x : Magnitude) (h : ℕ) (w : Halves
   rounds =
       record {
         number = number;
+        some = some-place;
         only =
             λ e m c n r q.
             let i : e ≡ c = one-place (f .digits) h e c (is-right e m r) (is-right c n q) in
@@ -121,6 +145,7 @@ module _ (f : Form) (some : 0 < f .digits) (x : Magnitude) (h : ℕ) (w : Halves
         over = λ s e m r l. settles e m r s ∙ placed-above f s m e l;
         small = small;
         none = none;
+        zero = λ s i y. settled-zero f s h i (w .reached 1 y);
       }
 
 pub fraction-rounds : FractionRounds
@@ -154,3 +179,30 @@ root-rounds f some n room = rounds f some (ofRoot n) (rootHalves f n) halves
           tenth = λ t l. omega arith;
           less = λ t v g l. omega (arith, mul-le-mul g g);
         }
+
+-- Where the power of ten is no more than that of the units, the root has more digits than its square could; and else an odd square would be
+-- a multiple of 4.
+pub root-never-half : RootNeverHalf
+root-never-half f some n k e m few least i = either (decLe (e + e) k)
+  where
+    odd : ℕ
+    odd = 2 * m + 1
+
+    square : odd * odd * 10 ^ (e + e) ≡ 4 * n * 10 ^ k
+    square = ap (λ (t : ℕ). odd * odd * t) (pow-add 10 e e) ∙ omega arith
+
+    either : Dec (e + e ≤ k) → ⊥
+    either (yes l) =
+        let up : 4 * n * 10 ^ k ≡ 4 * n * 10 ^ (k - (e + e)) * 10 ^ (e + e) =
+        ap (λ (t : ℕ). 4 * n * t) (ap (λ (t : ℕ). 10 ^ t) (omega arith) ∙ pow-add 10 (k - (e + e)) (e + e)) ∙ sym (mul-assoc (4 * n) (10 ^ (k - (e + e))) (10 ^ (e + e))) in
+        let j : odd * odd ≡ 4 * n * 10 ^ (k - (e + e)) = eq-of-mul-eq-mul-right (10 ^ (e + e)) (ten-above (e + e)) (odd * odd) (4 * n * 10 ^ (k - (e + e))) (square ∙ up) in
+        omega arith
+    either (no g) =
+        let l : k < e + e = lt-of-not-le g in
+        let up : odd * odd * 10 ^ (e + e) ≡ odd * odd * 10 ^ (e + e - k) * 10 ^ k =
+        ap (λ (t : ℕ). odd * odd * t) (ap (λ (t : ℕ). 10 ^ t) (omega arith) ∙ pow-add 10 (e + e - k) k) ∙ sym (mul-assoc (odd * odd) (10 ^ (e + e - k)) (10 ^ k)) in
+        let j : odd * odd * 10 ^ (e + e - k) ≡ 4 * n = eq-of-mul-eq-mul-right (10 ^ k) (ten-above k) (odd * odd * 10 ^ (e + e - k)) (4 * n) (sym up ∙ square) in
+        let one : 1 ≤ e + e - k = omega arith in
+        let ten : 10 ≤ 10 ^ (e + e - k) = ten-rises one in
+        let digits : 10 ^ f .digits ≡ 10 ^ (f .digits - 1) * 10 = ap (λ (t : ℕ). 10 ^ t) (omega arith) ∙ pow-suc 10 (f .digits - 1) in
+        omega (arith, mul-le-mul-left (odd * odd) ten)

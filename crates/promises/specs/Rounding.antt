@@ -31,19 +31,29 @@ pub record Number (f : Form) (x : Magnitude) (s t m a : ℕ) : Type 0 where
   pub range : a < f .exponents
   pub rounded : RoundedTo (f .digits) x (10 ^ (a + f .exponents)) m
 
+-- The magnitude rounded to d digits is somewhere: there are a place and digits that are right.
+pub record Somewhere (d : ℕ) (x : Magnitude) : Type 0 where
+  pub place : ℕ
+  pub digits : ℕ
+  pub rounded : RoundedTo d x (10 ^ place) digits
+
 -- That h are the halves of the magnitude x, so that what the rules settle from h is x rounded once.
 pub record Rounds (f : Form) (x : Magnitude) (h : ℕ) : Type 0 where
   -- a number that is answered is as said above
   pub number : (s t m a : ℕ) → settled f s h ≡ value t m a → Number f x s t m a
+  -- digits and a place that are right exist, unless the magnitude is too small to have d digits at the lowest place
+  pub some : x 10 (2 * 10 ^ f .digits - 1) → Somewhere (f .digits) x
   -- there are no other digits and no other place of them
   pub only : (e m c n : ℕ) → RoundedTo (f .digits) x (10 ^ e) m → RoundedTo (f .digits) x (10 ^ c) n → (e ≡ c) × (m ≡ n)
   -- whoever has digits and place that are right has the answer, its exponent judged by that place, so after rounding
   pub within : (s e m : ℕ) → RoundedTo (f .digits) x (10 ^ e) m → f .exponents ≤ e → e < 2 * f .exponents → settled f s h ≡ value s m (e - f .exponents)
   pub under : (s e m : ℕ) → RoundedTo (f .digits) x (10 ^ e) m → e < f .exponents → settled f s h ≡ outside
   pub over : (s e m : ℕ) → RoundedTo (f .digits) x (10 ^ e) m → 2 * f .exponents ≤ e → settled f s h ≡ outside
-  -- a magnitude too small to have d digits at any place is outside, and one below half the fine unit is zero
+  -- one that is too small is outside, and one below half the fine unit is zero
   pub small : (s : ℕ) → x 1 1 → (x 10 (2 * 10 ^ f .digits - 1) → ⊥) → settled f s h ≡ outside
   pub none : (s : ℕ) → (x 1 1 → ⊥) → settled f s h ≡ nought
+  -- and nothing else is zero
+  pub zero : (s : ℕ) → settled f s h ≡ nought → x 1 1 → ⊥
 
 -- The magnitude p / q is rounded once.
 abbrev pub FractionRounds : Type 0
@@ -52,3 +62,9 @@ FractionRounds = (f : Form) → 0 < f .digits → (p q : ℕ) → 0 < q → Roun
 -- The root of n is rounded once, for n as large as the form's roots can be asked for.
 abbrev pub RootRounds : Type 0
 RootRounds = (f : Form) → 0 < f .digits → (n : ℕ) → 4 * n < 4 ^ (7 * f .exponents) → Rounds f (ofRoot n) (rootHalves f n)
+
+-- A root is never just half way between m and m + 1 units, so that no half comes up: twice the root of a number of the form, digits n and
+-- any power of ten, is not m units and m + 1 units together, for m of as many digits.
+abbrev pub RootNeverHalf : Type 0
+RootNeverHalf = (f : Form) → 0 < f .digits → (n k e m : ℕ) → n < 10 ^ f .digits → 10 ^ (f .digits - 1) ≤ m
+    → (m * 10 ^ e + (m + 1) * 10 ^ e) * (m * 10 ^ e + (m + 1) * 10 ^ e) ≡ 4 * (n * 10 ^ k) → ⊥

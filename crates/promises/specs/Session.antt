@@ -2,14 +2,14 @@
 -- Assumes nothing.
 use Prim.Native.Nat.{ℕ}
 use mathlib.Core.Path.{_≡_}
-use mathlib.Core.List.{List, [], _∷_}
+use mathlib.Core.List.{List}
 use mathlib.Core.Bool.{false}
 use lib.ListN.{replicate, getD}
 use Rattle.rules.specs.Bytes.{bytes}
 use Rattle.rules.specs.Running.{RunResult, ran}
 use Rattle.rules.specs.Loads.{LoadResult, loaded}
 use Rattle.rules.specs.Sheet.{sheet}
-use Rattle.rules.specs.declared.State.{State}
+use Rattle.rules.specs.States.{noState}
 use Rattle.promises.specs.Calls.{loadOf, runOf}
 
 unfoldable pub deck : List ℕ
@@ -17,10 +17,6 @@ deck = bytes "30001101+1200201202+0410202202+000020200000720002200+1000000050+20
 
 unfoldable pub emptyDrum : List ℕ
 emptyDrum = replicate 1000 0
-
-abbrev pub noState : State
-noState =
-    record { location = 0; counts = 0 ∷ 0 ∷ 0 ∷ []; counter = 0; problem = 0; reader = 0; mode = 0; tracing = 0 }
 
 unfoldable pub sessionLoad : LoadResult
 sessionLoad = loaded (loadOf emptyDrum emptyDrum deck noState false)

@@ -5,19 +5,20 @@ use mathlib.Core.Path.{_≡_}
 use mathlib.Core.List.{List, [], _∷_, map}
 use mathlib.Core.Bool.{false}
 use Rattle.rules.specs.Numbers.{outcomeNumber}
-use Rattle.rules.specs.Drum.{wordAt}
+use Rattle.rules.specs.Drum.{cellAt}
 use Rattle.rules.specs.Machine.{Machine, Answer}
 use Rattle.rules.specs.Running.{step}
+use Rattle.rules.specs.declared.Cell.{Cell}
 use Rattle.rules.specs.declared.Cell.the-variants.{Foreign, Owned}
 
--- what one sees after the step: the number (02: the run goes on), where the next order is, the loop box, and the words of cell 000 and
--- of cell 004
+-- what one sees after the step: the number (02: the run goes on), where the next order is, the loop box, and cells 000 and 004, of which
+-- each is owned and has a word, or is not owned
 pub record Seen : Type 0 where
   pub number : ℕ
   pub location : ℕ
   pub box : List ℕ
-  pub previous : ℕ
-  pub stored : ℕ
+  pub previous : Cell
+  pub stored : Cell
 
 -- a name, the order, the words in cells 000, 002 and 003 before it, and what is seen after it
 pub record Row : Type 0 where
@@ -46,8 +47,8 @@ seenIn x =
       number = outcomeNumber (x .outcome);
       location = x .machine .state .location;
       box = x .machine .state .counts;
-      previous = wordAt (x .machine .cells) 0;
-      stored = wordAt (x .machine .cells) 4;
+      previous = cellAt (x .machine .cells) 0;
+      stored = cellAt (x .machine .cells) 4;
     }
 
 abbrev pub made : Row → Seen
@@ -55,15 +56,15 @@ made r = seenIn (step (record { deck = []; room = 0; switches = record { stop = 
 
 -- the result is in 000 and in 004, and the next order is in 002
 abbrev pub gives : ℕ → Seen
-gives w = record { number = 2; location = 2; box = 3 ∷ 1 ∷ 4 ∷ []; previous = w; stored = w }
+gives w = record { number = 2; location = 2; box = 3 ∷ 1 ∷ 4 ∷ []; previous = Owned w; stored = Owned w }
 
--- the order is undone: 000 holds what it held, and 004 is not owned
+-- the order is undone: 000 holds what it held, and 004 is not owned, so nothing was stored there
 abbrev pub refuses : ℕ → ℕ → Seen
-refuses n w = record { number = n; location = 1; box = 3 ∷ 1 ∷ 4 ∷ []; previous = w; stored = 0 }
+refuses n w = record { number = n; location = 1; box = 3 ∷ 1 ∷ 4 ∷ []; previous = Owned w; stored = Foreign }
 
--- nothing is stored; the next order and the box are these
+-- nothing is stored: 000 holds what it held, and 004 is not owned; the next order and the box are these
 abbrev pub goes : ℕ → List ℕ → ℕ → Seen
-goes l box w = record { number = 2; location = l; box = box; previous = w; stored = 0 }
+goes l box w = record { number = 2; location = l; box = box; previous = Owned w; stored = Foreign }
 
 unfoldable pub rows : List Row
 rows =

@@ -3,17 +3,18 @@
 use Prim.Native.Nat.{ℕ}
 use Prim.Native.String.{String}
 use mathlib.Core.Path.{_≡_}
-use mathlib.Core.List.{List, [], _∷_, map}
+use mathlib.Core.List.{List, [], _∷_, _++_, map}
 use mathlib.Core.Bool.{Bool, true, false}
 use lib.ListN.{replicate}
 use Rattle.rules.specs.Bytes.{bytes}
-use Rattle.rules.specs.Running.{ran}
+use Rattle.rules.specs.Running.{RunResult, ran}
 use Rattle.rules.specs.Loads.{LoadResult, loaded}
-use Rattle.rules.specs.Sheet.{sheet, barLine}
+use Rattle.rules.specs.Sheet.{sheet, loadLine}
+use Rattle.rules.specs.States.{noState}
 use Rattle.rules.specs.declared.Loading.{Loading}
 use Rattle.rules.specs.declared.Loading.the-variants.{Loaded, NotLoaded}
 use Rattle.promises.specs.Calls.{loadOf, runOf}
-use Rattle.promises.specs.Session.{emptyDrum, noState}
+use Rattle.promises.specs.Session.{emptyDrum}
 
 -- a deck, whether the load is traced, whether the switch is on STOP, the budget, the room for cards, and what is written
 pub record Worked : Type 0 where
@@ -27,14 +28,27 @@ pub record Worked : Type 0 where
 abbrev pub worked : String → Bool → Bool → ℕ → ℕ → String → Worked
 worked d t s b r w = record { deck = d; traced = t; stop = s; budget = b; room = r; sheet = w }
 
--- a refused load is told by its line; else the deck is run from the state that the load left
-abbrev pub sheetAfter : Worked → LoadResult → Loading → List ℕ
-sheetAfter w x Loaded =
-    sheet (ran (runOf (x .drum) (x .marks) (bytes (w .deck)) (replicate (w .room) 0) (x .state) (w .budget) (record { stop = w .stop })))
-sheetAfter w x (NotLoaded b) = barLine b
+abbrev pub loadIn : Worked → LoadResult
+loadIn w = loaded (loadOf emptyDrum emptyDrum (bytes (w .deck)) noState (w .traced))
+
+-- the deck is run from the state that the load left
+abbrev pub runIn : Worked → LoadResult → RunResult
+runIn w x =
+    ran (runOf (x .drum) (x .marks) (bytes (w .deck)) (replicate (w .room) 0) (x .state) (w .budget) (record { stop = w .stop }))
+
+-- a refused load is told by its line, and there is no run
+abbrev pub runLines : Worked → LoadResult → Loading → List ℕ
+runLines w x Loaded = sheet (runIn w x)
+runLines w x (NotLoaded b) = []
 
 abbrev pub sheetOf : Worked → List ℕ
-sheetOf w = let x = loaded (loadOf emptyDrum emptyDrum (bytes (w .deck)) noState (w .traced)) in sheetAfter w x (x .loading)
+sheetOf w = let x = loadIn w in loadLine (x .loading) ++ runLines w x (x .loading)
+
+-- READ of 010 to 012 meets a card that fits and then one that does not
+unfoldable pub misfit : Worked
+misfit =
+    worked "20001001+0400010012+0410010010000T00100020009010+1000000050+200000005000010009013-0000000000000" false false 2 44
+    "Z280001000000+0000000000"
 
 unfoldable pub sessions : List Worked
 sessions =
@@ -63,11 +77,14 @@ sessions =
     -- READ of two cards, and PCH of what was read, of which 012 is minus zero
     worked "20001001+0400010012+0410010012000T00100020009010+1000000050+200000005000010009012-0000000000000" false false 2 44
     "30001010+1000000050+2000000050-0000000000000Z020003000002+0000000000" ∷
-    -- READ whose second card does not fit stores nothing, so PCH at 002 would be refused; READ itself is tried again
-    worked "20001001+0400010012+0410010010000T00100020009010+1000000050+200000005000010009013-0000000000000" false false 2 44
-    "Z280001000000+0000000000" ∷
+    misfit ∷
     []
 
 -- every session writes what it should
 abbrev pub AllWorked : Type 0
 AllWorked = map sheetOf sessions ≡ map (λ w. bytes (w .sheet)) sessions
+
+-- and the READ that meets a misfit stores nothing, not even the card before it
+pub record MisfitStoresNothing : Type 0 where
+  pub drum : runIn misfit (loadIn misfit) .drum ≡ loadIn misfit .drum
+  pub marks : runIn misfit (loadIn misfit) .marks ≡ loadIn misfit .marks

@@ -79,7 +79,7 @@ module _ {a a′ b b′ c c′ d d′ e e′ : ℕ} (q : Data a b c d e ≡ Data
   data-size = cc
 
 -- by its kind a card of n words is read as such
-pub data-kind : (k : ℕ) (t : List ℕ) (n : ℕ) → 1 ≤ n → n ≤ 5 → k ≡ 48 + n → cardOf (k ∷ t) ≡ dataOf n (k ∷ t)
+data-kind : (k : ℕ) (t : List ℕ) (n : ℕ) → 1 ≤ n → n ≤ 5 → k ≡ 48 + n → cardOf (k ∷ t) ≡ dataOf n (k ∷ t)
 unfolding cardOf
 data-kind k t n g h e =
     let m : k - 48 ≡ n = omega arith in

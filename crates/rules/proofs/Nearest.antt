@@ -3,7 +3,7 @@
 use Prim.Native.Nat.{ℕ, zero, suc, _+_, _*_, _/_, _^_, _≤_, _<_}
 use mathlib.Core.Path.{_≡_, refl, sym, subst, _∙_}
 use mathlib.Core.Bool.{Bool, true, false}
-use native.Mathlib.Nat.{le-antisymm, lt-of-not-le, lt-of-mul-lt-mul-right, mul-le-mul-left, mul-le-mul-right, div-mul-le-self, lt-div-mul-add, le-div-iff-mul-le, one-le-pow, pow-le-pow-right, zero-lt-suc}
+use native.Mathlib.Nat.{le-antisymm, lt-of-not-le, lt-of-mul-lt-mul-right, mul-le-mul-left, mul-le-mul-right, div-mul-le-self, lt-div-mul-add, le-div-iff-mul-le, one-le-pow, pow-le-pow-right, pow-suc, zero-lt-suc}
 use native.Mathlib.Decide.{decLe}
 use native.Mathlib.Omega.{arith}
 use lib.Dec.{ltb}
@@ -56,6 +56,33 @@ nearest-falls h {e} {t} l =
 pub record Right (d h e : ℕ) : Type 0 where
   pub enough : nearest h e < 10 ^ d
   pub notBelow : (k : ℕ) → e ≡ suc k → 10 ^ d ≤ nearest h k
+
+-- There is a right place: below one where the digits are enough, the lowest such; and at the place h there are none left.
+pub record SomeRight (d h : ℕ) : Type 0 where
+  pub place : ℕ
+  pub right : Right d h place
+
+right-below : (d h top : ℕ) → nearest h top < 10 ^ d → SomeRight d h
+right-below d h zero l = record { place = 0; right = record { enough = l; notBelow = λ k i. absurd (omega arith) } }
+right-below d h (suc t) l = either (decLe (10 ^ d) (nearest h t)) (right-below d h t)
+  where
+    either : Dec (10 ^ d ≤ nearest h t) → (nearest h t < 10 ^ d → SomeRight d h) → SomeRight d h
+    either (no g) lower = lower (lt-of-not-le g)
+    either (yes g) lower =
+        record {
+          place = suc t;
+          right = record { enough = l; notBelow = λ k i. subst (λ (x : ℕ). 10 ^ d ≤ nearest h x) (omega arith) g };
+        }
+
+below-ten : (h : ℕ) → h < 10 ^ h
+below-ten zero = omega arith
+below-ten (suc h) = omega (arith, below-ten h, pow-suc 10 h)
+
+pub some-right : (d h : ℕ) → SomeRight d h
+some-right d h = right-below d h h (omega (arith, nothing, ten-above d))
+  where
+    nothing : nearest h h ≡ 0
+    nothing = nearest-is h h 0 (omega arith) (omega (arith, below-ten h))
 
 -- What a search from the place top down finds, whether or not top was high enough.
 record Found (d h top e : ℕ) : Type 0 where

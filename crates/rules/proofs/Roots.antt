@@ -24,7 +24,7 @@ no-larger n r s low high = either (decLe r s)
         let l : s + 1 ≤ r = omega (arith, lt-of-not-le g) in
         absurd (omega (arith, mul-le-mul l l))
 
-pub one-root : (n r s : ℕ) → RootCut n r → RootCut n s → r ≡ s
+one-root : (n r s : ℕ) → RootCut n r → RootCut n s → r ≡ s
 one-root n r s p q = le-antisymm (no-larger n r s (p .reached) (q .notPassed)) (no-larger n s r (q .reached) (p .notPassed))
 
 -- one binary digit more

@@ -49,6 +49,19 @@ module _ (f : Form) (s h : ℕ) where
           let w : placeIn f h ≡ 4 * f .exponents = place-beyond (f .digits) h (4 * f .exponents) e r l in
           settled-some some ∙ placed-above f s (nearest h (placeIn f h)) (placeIn f h) (omega arith) ∙ sym (placed-above f s (nearest h e) e (omega arith))
 
+  -- and it is no zero, but for no halves
+  pub settled-zero : settled f s h ≡ nought → 0 < h → ⊥
+  unfolding placed
+  settled-zero i some = by-low (leb (f .exponents) e) (ltb e (2 * f .exponents)) (sym (settled-some some) ∙ i)
+    where
+      e : ℕ
+      e = placeIn f h
+
+      by-low : (b c : Bool) → pick b (pick c (value s (nearest h e) (e - f .exponents)) outside) outside ≡ nought → ⊥
+      by-low true true j = let z : _≡_ {A = ℕ} 0 1 = cc in omega arith
+      by-low true false j = let z : _≡_ {A = ℕ} 0 1 = cc in omega arith
+      by-low false c j = let z : _≡_ {A = ℕ} 0 1 = cc in omega arith
+
 -- Whoever has the digits of a magnitude from the place j up, and has rounded those, has the definition's answer.
 pub settled-is : (f : Form) (s h j k m : ℕ) → Rounded (f .digits) (h / 10 ^ j) (10 ^ k) m → settled f s h ≡ placed f s m (j + k)
 settled-is f s h j k m r =

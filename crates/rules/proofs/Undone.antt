@@ -120,7 +120,8 @@ step-leaves i m =
     pick-leaves m (both (leb 1 (m .state .location)) (leb (m .state .location) 999)) (fetched i m (cellAt (m .cells) (m .state .location)))
     (undone BadAddress m) (fetched-leaves i m (cellAt (m .cells) (m .state .location)) refl) (λ e. inl refl)
 
--- In traced mode PCH goes on to the next order and does nothing else, whatever its addresses.
+-- In traced mode PCH goes on to the next order and does nothing else, whatever its addresses. Nothing cites this law: it stands to hold the
+-- definitions to the rule, and a bad PCH that is refused in traced mode fails here.
 pub pch-idle : (i : Inputs) (m : Machine) (w : ℕ) → isTraced (m .state) ≡ true → eqb (codeIn w) pchCode ≡ true
     → obeyed i m w ≡ done (onward m)
 unfolding obeyed codes lookup checked performed gone

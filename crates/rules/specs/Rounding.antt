@@ -28,9 +28,14 @@ pub data Settled : Type 0 where
   value : ℕ → ℕ → ℕ → Settled
   outside : Settled
 
--- A magnitude is counted in a unit so fine that no exact result needs a finer: the unit of an exponent as far below 0 as there are
--- exponents. It is given by its halves: twice the magnitude, cut to a whole number. Rounding needs to know no more than that, be the
--- magnitude whole, a fraction or a root.
+-- A magnitude is counted in a unit so fine that no exact result but zero is too small for its digits there: the unit of an exponent as far
+-- below 0 as there are exponents. It is given by its halves: twice the magnitude, cut to a whole number. Rounding needs to know no more
+-- than that, be the magnitude whole, a fraction or a root: it reaches k and a half units just where its halves reach 2 k + 1 units, a
+-- whole number.
+--
+-- P3 worked, 1/3 in the form `single`: 1 is 10 ^ 157 fine units, so the halves are 2 * 10 ^ 157 / 3 cut, 157 sixes. At the place 149
+-- eight of them are left, and the nearest is (66666666 + 1) / 2 = 33333333, of eight digits; at 148 it is 333333333, of nine. So the place
+-- is 149, the exponent 149 - 100 = 49, and the word +3333333349.
 
 -- the whole number of units of 10 ^ e that is nearest, a half going up
 unfoldable pub nearest : ℕ → ℕ → ℕ
@@ -42,6 +47,9 @@ unfoldable pub place : ℕ → ℕ → ℕ → ℕ
 place d h zero = zero
 place d h (suc e) = pick (ltb (nearest h e) (10 ^ d)) (place d h e) (suc e)
 
+-- A place above it: four times as many as there are exponents. In `single` that is 400, and no sum reaches 2 * 10 ^ 207 fine units, no
+-- product or quotient 10 ^ 257, no root 10 ^ 182, so that eight digits are enough at the place 250 already. Were the place above 400, then
+-- 400 would be found for it, and both are outside.
 abbrev pub placeIn : Form → ℕ → ℕ
 placeIn f h = place (f .digits) h (4 * f .exponents)
 
@@ -66,7 +74,8 @@ unfoldable pub rootBelow : ℕ → ℕ → ℕ
 rootBelow zero n = 0
 rootBelow (suc k) n = grown n (rootBelow k (n / 4))
 
--- the halves of the root of n
+-- The halves of the root of n. The steps are enough: in `single` n is below 10 ^ 8 * 10 ^ (99 + 257) = 10 ^ 364, so 4 n is below 4 ^ 700,
+-- which has 422 digits.
 abbrev pub rootHalves : Form → ℕ → ℕ
 rootHalves f n = rootBelow (7 * f .exponents) (4 * n)
 
