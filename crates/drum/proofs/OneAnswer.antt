@@ -22,6 +22,8 @@ use Rattle.drum.proofs.blocks.all_owned.Kinds as all-owned-kinds
 use Rattle.drum.proofs.blocks.all_owned.Reads as all-owned
 use Rattle.drum.proofs.blocks.first_words.Kinds as first-words-kinds
 use Rattle.drum.proofs.blocks.first_words.Reads as first-words
+use Rattle.drum.proofs.checks.check.Kinds as check-kinds
+use Rattle.drum.proofs.checks.check.Reads as check
 
 -- of two calls with the same arguments that meet a contract, what holds of both results and of all that is left; n slices are lent
 abbrev pub Agrees : (n : ℕ) (ps : List (PK n)) (r : RK n) → Out n ps r
@@ -52,3 +54,6 @@ one-block κs a x y s t p q = p ∙ sym q
 
 pub one-words : Agrees 2 first-words-kinds.ps first-words-kinds.r first-words.Post (λ κs x y s t. x ≡ y)
 one-words κs a x y s t p q = p ∙ sym q
+
+pub one-check : Agrees 2 check-kinds.ps check-kinds.r check.Post (λ κs x y s t. x ≡ y)
+one-check κs a x y s t p q = p ∙ sym q

@@ -1,11 +1,13 @@
-// The cells of a lent drum and its marks: read as the job sees them, stored into, and check 10. Each function takes runs of any length and
-// any address; where there is no cell, there is a foreign one.
+// The cells of a lent drum and its marks: read as the job sees them, stored into, and the checks 10, 20 and 21. Each function takes runs of
+// any length and any address; where there is no cell, there is a foreign one.
 mod blocks;
 mod checking;
+mod checks;
 
 pub use blocks::all_owned;
 pub use blocks::first_words;
 pub use checking::is_fit;
+pub use checks::check;
 use rules::Cell;
 ghost use mathlib.Core.Path.{_≡_};
 ghost use Rattle.rules.specs.Drum.{view, cellAt, wordAt};

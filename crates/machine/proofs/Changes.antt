@@ -5,11 +5,19 @@ use native.Mathlib.Omega.{arith}
 use Rattle.rules.specs.Words.{addressIn, worthOf}
 use Rattle.rules.specs.declared.Address.{Address}
 use Rattle.rules.specs.declared.Address.the-variants.{OfA, OfB, OfC}
+use Rattle.rules.specs.Orders.{newAddress}
+use Rattle.rules.specs.declared.Changing.{Changing}
+use Rattle.rules.specs.declared.Changing.the-variants.{SetTo, AddTo, SubFrom}
 
 pub address-small : (x : Address) (w : ℕ) → addressIn x w < 1000
 address-small OfA w = omega arith
 address-small OfB w = omega arith
 address-small OfC w = omega arith
+
+pub new-small : (k : Changing) (x c : ℕ) → c < 1000 → newAddress k x c < 1000
+new-small SetTo x c l = l
+new-small AddTo x c l = omega arith
+new-small SubFrom x c l = omega arith
 
 -- the address of worth `worth` was `old`, and becomes `new`
 pub record Swapped (w old new worth : ℕ) : Type 0 where

@@ -22,7 +22,7 @@ use Rattle.rules.specs.declared.DeckFault.{DeckFault}
 use Rattle.rules.specs.declared.Bar.{Bar}
 use Rattle.rules.specs.declared.Bar.the-variants.{BadDrum, BadDeck, BadState}
 use Rattle.rules.specs.declared.Outcome.{Outcome}
-use Rattle.rules.specs.declared.Outcome.the-variants.{GoesOn}
+use Rattle.rules.specs.declared.Outcome.the-variants.{GoesOn, Stops, Undone}
 use Rattle.rules.specs.declared.Ending.the-variants.{Ran as RanTo}
 use Rattle.rules.proofs.Tests.{both-first, both-second}
 use Rattle.drum.proofs.Begins.{begins}
@@ -53,6 +53,11 @@ module _ (i : Inputs) (budget count : ℕ) (m : Machine) where
     where
       none : budget ≤ count → budget - count ≡ 0
       none l = omega arith
+
+pub at-most-one : (o : Outcome) → completed o ≤ 1
+at-most-one GoesOn = omega arith
+at-most-one (Stops k w) = omega arith
+at-most-one (Undone r) = omega arith
 
 -- ---- the state that passed
 

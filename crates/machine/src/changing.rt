@@ -1,7 +1,7 @@
 // Address changes: one address of the word at B.
 ghost use mathlib.Core.Path.{_≡_};
 ghost use Prim.Native.Nat.{_<_, _≤_};
-ghost use Rattle.rules.specs.Orders.{newAddress, changedWord, changed};
+ghost use Rattle.rules.specs.Orders.{changedWord, changed};
 ghost use Rattle.rules.specs.Machine.{done};
 ghost use Rattle.drum.specs.Held.{Ready};
 ghost use Rattle.machine.specs.Lent.{Fitting, DoesQuietly};
@@ -10,25 +10,13 @@ use rules::Address;
 use rules::Changing;
 use rules::Outcome;
 
-// The address that x becomes.
-fn new_address(k: Changing, x: u64, c: u64) -> u64
-    requires { ⌜ (x < 1000) × (c < 1000) ⌝ }
-    ensures { λ r. ⌜ (r ≡ newAddress k x c) × (r < 1000) ⌝ }
-{
-    match k {
-        Changing::SetTo => c,
-        Changing::AddTo => (x + c) % 1000,
-        Changing::SubFrom => (x + 1000 - c) % 1000,
-    }
-}
-
 // The word w with one of its addresses changed.
-fn changed_word(k: Changing, x: Address, w: u64, c: u64) -> u64
+fn changed_word(k: Changing, x: Address, w: u64, c: u16) -> u64
     requires { ⌜ (w ≤ 19999999999) × (c < 1000) ⌝ }
     ensures { λ r. ⌜ (r ≡ changedWord k x w c) × (r ≤ 19999999999) ⌝ }
 {
     let old = words::address_in(x, w);
-    let new = new_address(k, old, c);
+    let new = words::new_address(k, old as u16, c);
     let worth = words::worth_of(x);
     let less = old * worth;
     let more = new * worth;
@@ -50,7 +38,7 @@ pub fn change(
         (now (drum .exit)) (now (marks .exit)) (now (row .exit)) r (λ m. done (changed m k x b c)) ⌝ }
 {
     let w = drum::word(drum, marks, b);
-    let y = changed_word(k, x, w, c as u64);
+    let y = changed_word(k, x, w, c as u16);
     drum::keep(drum, marks, b, y);
     go_on(row);
     Outcome::GoesOn

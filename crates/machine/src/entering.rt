@@ -41,7 +41,10 @@ pub fn state_fits(
                         state.problem <= 999,
                         and(
                             state.mode <= 1,
-                            and(state.tracing <= state.mode, and(owned, stands)),
+                            and(
+                                state.tracing <= 1,
+                                and(state.tracing <= state.mode, and(owned, stands)),
+                            ),
                         ),
                     ),
                 ),

@@ -1,9 +1,8 @@
 // Stops and transfers.
 ghost use mathlib.Core.Path.{_≡_};
-ghost use Prim.Native.Nat.{_<_, _≤_};
+ghost use Prim.Native.Nat.{_<_};
 ghost use lib.Dec.{leb};
-ghost use Rattle.rules.specs.Words.{pick, digitsIn, exponentIn, withAddress};
-ghost use Rattle.rules.specs.declared.Address.the-variants.{OfC};
+ghost use Rattle.rules.specs.Words.{pick, exponentIn};
 ghost use Rattle.rules.specs.Orders.{isNegative, gone, linked};
 ghost use Rattle.rules.specs.Machine.{Inputs, done};
 ghost use Rattle.machine.specs.Lent.{Fitting, DoesQuietly};
@@ -30,14 +29,6 @@ fn exponent_target(w: u64, b: usize, c: usize, next: usize) -> usize
     if b <= x { c } else { next }
 }
 
-// TR SUBR: a word with plus, and b for its C-address.
-fn linked_word(w: u64, b: usize) -> u64
-    requires { ⌜ b < 1000 ⌝ }
-    ensures { λ r. ⌜ (r ≡ withAddress OfC (digitsIn w) b) × (r ≤ 19999999999) ⌝ }
-{
-    w % 10_000_000_000 / 1000 * 1000 + b as u64
-}
-
 // TR SUBR: the order at c is changed, and is the next.
 fn link(drum: &mut [u64], marks: &mut [u8], row: &mut [u64; 10], b: usize, c: usize)
     requires { ⌜ (b < 1000) × (c < 1000) ⌝ }
@@ -45,7 +36,7 @@ fn link(drum: &mut [u64], marks: &mut [u8], row: &mut [u64; 10], b: usize, c: us
         (now (drum .exit)) (now (marks .exit)) (now (row .exit)) Outcome.GoesOn (λ m. done (linked m b c)) ⌝ }
 {
     let w = drum::word(drum, marks, c);
-    let x = linked_word(w, b);
+    let x = words::linked_word(w, b as u16);
     drum::keep(drum, marks, c, x);
     go_to(row, c);
 }

@@ -1,6 +1,5 @@
 // Load and run on a lent drum, its marks, a deck and an output. Only these two are shown; each family of orders has a module of its own.
 mod changing;
-mod checks;
 mod entering;
 mod going;
 mod loading;

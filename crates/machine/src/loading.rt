@@ -1,6 +1,5 @@
 // Load: the cards before the first-order card go onto the drum.
-ghost use mathlib.Core.Path.{_≡_};
-ghost use Rattle.rules.specs.Loads.{modeOf, fresh, loaded};
+ghost use Rattle.rules.specs.Loads.{loaded};
 ghost use Rattle.machine.specs.Lent.{LoadRight};
 use crate::Loaded;
 use crate::reading::store_cards;
@@ -8,29 +7,6 @@ use rules::Bar;
 use rules::Deck;
 use rules::Loading;
 use rules::State;
-
-// 1 for traced, 0 for plain.
-fn mode_of(traced: bool) -> u64
-    ensures { λ r. ⌜ r ≡ modeOf traced ⌝ }
-{
-    if traced { 1 } else { 0 }
-}
-
-// The state that a load leaves, by what stands on the first-order card; the reader is behind it.
-fn begin(behind: usize, order: usize, problem: u64, traced: bool) -> State
-    ensures { λ r. ⌜ r ≡ fresh behind order problem traced ⌝ }
-{
-    let mode = mode_of(traced);
-    State {
-        location: order,
-        counts: [0, 0, 0],
-        counter: 0,
-        problem,
-        reader: behind,
-        mode,
-        tracing: mode,
-    }
-}
 
 // Checks 10 and 11 come first, and a call that one of them refuses changes nothing.
 pub fn load(drum: &mut [u64], marks: &mut [u8], deck: &[u8], state: State, traced: bool) -> Loaded
@@ -57,7 +33,7 @@ pub fn load(drum: &mut [u64], marks: &mut [u8], deck: &[u8], state: State, trace
         } => {
             store_cards(drum, marks, deck, 0, behind);
             drum::keep(drum, marks, 0, 0);
-            let s = begin(behind, order, problem, traced);
+            let s = states::begin(behind, order, problem, traced);
             Loaded {
                 loading: Loading::Loaded,
                 state: s,

@@ -91,7 +91,7 @@ fn obey(
     let Built::As(o, k) = codes::built_at(index, slot) else {
         return Outcome::Undone(Refusal::NotBuilt);
     };
-    let found = crate::checks::check(drum, marks, k, a, b, c);
+    let found = drum::check(drum, marks, k, a, b, c);
     match found {
         Checked::Refuses(r) => Outcome::Undone(r),
         Checked::Passes => perform(drum, marks, out, row, switches, o, a, b, c, deck),

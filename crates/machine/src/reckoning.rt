@@ -1,5 +1,4 @@
 // Arithmetic and MOVE 000: a result is stored at C and at 000.
-ghost use mathlib.Core.Path.{_≡_};
 ghost use Prim.Native.Nat.{_<_, _≤_};
 ghost use Rattle.rules.specs.Drum.{wordAt};
 ghost use Rattle.rules.specs.Machine.{done, onward};
@@ -10,21 +9,6 @@ use crate::rows::go_on;
 use rules::Outcome;
 use rules::Reckoned;
 use rules::Reckoning;
-
-// Of the words x at A and y at B.
-fn reckon(r: Reckoning, x: u64, y: u64) -> Reckoned
-    ensures { λ q. ⌜ q ≡ reckonedBy r x y ⌝ }
-{
-    match r {
-        Reckoning::Add => number::add(x, y),
-        Reckoning::Sub => number::sub(x, y),
-        Reckoning::Mpy => number::mpy(x, y),
-        Reckoning::Div => number::div(x, y),
-        Reckoning::Ngmpy => number::ngmpy(x, y),
-        Reckoning::Sqrt => number::sqrt(y),
-        Reckoning::Abs => number::abs(y),
-    }
-}
 
 // The word w is the result of the order.
 fn store_result(drum: &mut [u64], marks: &mut [u8], row: &mut [u64; 10], c: usize, w: u64)
@@ -54,7 +38,7 @@ pub fn reckon_at(
 {
     let x = drum::word(drum, marks, a);
     let y = drum::word(drum, marks, b);
-    let q = reckon(k, x, y);
+    let q = number::reckon(k, x, y);
     match q {
         Reckoned::Result(w) => {
             store_result(drum, marks, row, c, w);

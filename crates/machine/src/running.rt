@@ -1,7 +1,5 @@
 // A whole run: order after order, up to the budget.
 ghost use mathlib.Core.Path.{_≡_};
-ghost use Prim.Native.Nat.{_≤_};
-ghost use Rattle.rules.specs.Numbers.{mayGoOn, completed};
 ghost use Rattle.rules.specs.Running.{begun, ran};
 ghost use Rattle.rules.specs.States.{stateIn};
 ghost use Rattle.machine.specs.Lent.{Shows, Ended, RunRight, rowFor, endedAs, barredAs, callOf, runOf};
@@ -13,28 +11,6 @@ use rules::Ending;
 use rules::Outcome;
 use rules::State;
 use rules::Switches;
-
-// Whether the next order may be begun.
-fn may_go_on(o: Outcome) -> bool
-    ensures { λ r. ⌜ r ≡ mayGoOn o ⌝ }
-{
-    match o {
-        Outcome::GoesOn => true,
-        Outcome::Stops(_, _) => false,
-        Outcome::Undone(_) => false,
-    }
-}
-
-// How many orders were completed with this outcome.
-fn completed_by(o: Outcome) -> u64
-    ensures { λ r. ⌜ (r ≡ completed o) × (r ≤ 1) ⌝ }
-{
-    match o {
-        Outcome::GoesOn => 1,
-        Outcome::Stops(_, _) => 1,
-        Outcome::Undone(_) => 0,
-    }
-}
 
 // The ten numbers of a state before its first order: nothing is written.
 fn row_for(state: State) -> [u64; 10]
@@ -105,10 +81,10 @@ fn run_on(
     let mut count: u64 = 0;
     while count < budget {
         let o = crate::obeying::step(drum, marks, out, &mut row, switches, deck, &index);
-        if may_go_on(o) {
+        if stops::may_go_on(o) {
             count = count + 1;
         } else {
-            return ended(o, count + completed_by(o), &row);
+            return ended(o, count + stops::completed_by(o), &row);
         }
     }
     ended(Outcome::GoesOn, count, &row)

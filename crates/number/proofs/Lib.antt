@@ -4,3 +4,4 @@ mod Newton
 mod Aligning
 mod Sizes
 pub mod OneAnswer
+pub mod OneReckoned

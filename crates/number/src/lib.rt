@@ -1,9 +1,11 @@
 // Word arithmetic: the exact result of two numbers, or of one, rounded once to eight digits. A word that is no number is refused.
+mod orders;
 mod products;
 mod roots;
 mod rounding;
 mod sums;
 
+pub use orders::reckon;
 use products::over;
 use products::times;
 use roots::root;

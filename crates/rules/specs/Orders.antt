@@ -92,7 +92,8 @@ raise false n = n
 abbrev pub raised : State → Bool → Bool → Bool → List ℕ
 raised s x y z = raise x (countA s) ∷ raise y (countB s) ∷ raise z (countC s) ∷ []
 
--- the largest of the named counts, once raised; a count that is not named is taken for 0
+-- The largest of the named counts, once raised; a count that is not named is taken for 0. Only those that this loop has raised can end it:
+-- a count that is not named belongs to another loop, and however large it is, it says nothing of this one.
 abbrev pub named : Bool → ℕ → ℕ
 named true n = n + 1
 named false n = 0

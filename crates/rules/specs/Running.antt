@@ -177,8 +177,8 @@ begun c = record { cells = view (c .drum) (c .marks); sent = []; state = c .stat
 abbrev pub inputs : RunCall → Inputs
 inputs c = record { deck = c .deck; room = length (c .out); switches = c .switches }
 
--- Check 12. Mode and tracing are 0 or 1, and tracing is not on in plain mode. The reader stands behind the first-order card, at a
--- card's start or the deck's end.
+-- Check 12. Of mode and tracing there are three tests: mode is 0 or 1; tracing is 0 or 1; tracing is not on in plain mode, that is, not
+-- above the mode. The reader stands behind the first-order card, at a card's start or the deck's end.
 abbrev pub boxFits : State → Bool
 boxFits s = both (leb (countA s) 999) (both (leb (countB s) 999) (leb (countC s) 999))
 
@@ -190,8 +190,9 @@ stateFits v deck behind s budget =
     (both (leb (s .counter) 9999)
     (both (leb (s .problem) 999)
     (both (leb (s .mode) 1)
+    (both (leb (s .tracing) 1)
     (both (leb (s .tracing) (s .mode))
-    (both (isOwned (cellAt v 0)) (mayStand deck behind (s .reader)))))))))
+    (both (isOwned (cellAt v 0)) (mayStand deck behind (s .reader))))))))))
 
 unfoldable pub ranOn : RunCall → Deck → RunResult
 ranOn c (Faulty f) = notRun c (BadDeck f)

@@ -12,6 +12,8 @@ use Rattle.states.proofs.state_in.Kinds as state-in-kinds
 use Rattle.states.proofs.state_in.Reads as state-in
 use Rattle.states.proofs.none.Kinds as none-kinds
 use Rattle.states.proofs.none.Reads as none
+use Rattle.states.proofs.begin.Kinds as begin-kinds
+use Rattle.states.proofs.begin.Reads as begin
 
 -- of two calls with the same arguments that meet a contract, what holds of both results and of all that is left; n slices are lent
 abbrev pub Agrees : (n : ℕ) (ps : List (PK n)) (r : RK n) → Out n ps r
@@ -30,3 +32,6 @@ one-state κs a x y s t p q = p ∙ sym q
 
 pub one-none : Agrees 0 none-kinds.ps none-kinds.r none.Post (λ κs x y s t. x ≡ y)
 one-none κs a x y s t p q = p ∙ sym q
+
+pub one-begin : Agrees 0 begin-kinds.ps begin-kinds.r begin.Post (λ κs x y s t. x ≡ y)
+one-begin κs a x y s t p q = p ∙ sym q

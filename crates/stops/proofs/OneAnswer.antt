@@ -1,50 +1,102 @@
--- Each function here has one answer: its contract says what the answer equals, and two answers that equal a third are equal.
--- Assumes nothing.
-use Rattle.rules.specs.Numbers.{refusalNumber, reckonedNumber, reckonedWord, deckNumber, deckPlace, barNumber, barPlace}
-use Rattle.rules.specs.Numbers.{stopNumber, outcomeNumber, outcomeShown, endingNumber, endingPlace, endingShown, loadingNumber, loadingPlace}
-use Rattle.rules.specs.declared.Refusal.{Refusal}
-use Rattle.rules.specs.declared.Reckoned.{Reckoned}
-use Rattle.rules.specs.declared.DeckFault.{DeckFault}
-use Rattle.rules.specs.declared.Bar.{Bar}
-use Rattle.rules.specs.declared.Stop.{Stop}
-use Rattle.rules.specs.declared.Outcome.{Outcome}
-use Rattle.rules.specs.declared.Ending.{Ending}
-use Rattle.rules.specs.declared.Loading.{Loading}
-use Rattle.rules.proofs.Agreed.{One, one}
+-- Each public function has one answer: two that its contract allows for the same arguments are equal.
+-- `Post` is the contract of a function, as it stands at the function. Assumes nothing.
+use Prim.Native.Nat.{ℕ}
+use mathlib.Core.Path.{_≡_, sym, _∙_}
+use mathlib.Core.List.{List}
+use contract.Lifetimes.{Lfts}
+use denote.Triple.Clauses.{AtExit}
+use borrow.Fn.Kinds.{PK, RK, Out, Dens, resT, endedOf}
+use Rattle.stops.proofs.refusal_number.Kinds as refusal-number-kinds
+use Rattle.stops.proofs.refusal_number.Reads as refusal-number
+use Rattle.stops.proofs.reckoned_number.Kinds as reckoned-number-kinds
+use Rattle.stops.proofs.reckoned_number.Reads as reckoned-number
+use Rattle.stops.proofs.reckoned_word.Kinds as reckoned-word-kinds
+use Rattle.stops.proofs.reckoned_word.Reads as reckoned-word
+use Rattle.stops.proofs.deck_number.Kinds as deck-number-kinds
+use Rattle.stops.proofs.deck_number.Reads as deck-number
+use Rattle.stops.proofs.deck_place.Kinds as deck-place-kinds
+use Rattle.stops.proofs.deck_place.Reads as deck-place
+use Rattle.stops.proofs.bar_number.Kinds as bar-number-kinds
+use Rattle.stops.proofs.bar_number.Reads as bar-number
+use Rattle.stops.proofs.bar_place.Kinds as bar-place-kinds
+use Rattle.stops.proofs.bar_place.Reads as bar-place
+use Rattle.stops.proofs.stop_number.Kinds as stop-number-kinds
+use Rattle.stops.proofs.stop_number.Reads as stop-number
+use Rattle.stops.proofs.outcome_number.Kinds as outcome-number-kinds
+use Rattle.stops.proofs.outcome_number.Reads as outcome-number
+use Rattle.stops.proofs.outcome_shown.Kinds as outcome-shown-kinds
+use Rattle.stops.proofs.outcome_shown.Reads as outcome-shown
+use Rattle.stops.proofs.may_go_on.Kinds as may-go-on-kinds
+use Rattle.stops.proofs.may_go_on.Reads as may-go-on
+use Rattle.stops.proofs.completed_by.Kinds as completed-by-kinds
+use Rattle.stops.proofs.completed_by.Reads as completed-by
+use Rattle.stops.proofs.ending_number.Kinds as ending-number-kinds
+use Rattle.stops.proofs.ending_number.Reads as ending-number
+use Rattle.stops.proofs.ending_place.Kinds as ending-place-kinds
+use Rattle.stops.proofs.ending_place.Reads as ending-place
+use Rattle.stops.proofs.ending_shown.Kinds as ending-shown-kinds
+use Rattle.stops.proofs.ending_shown.Reads as ending-shown
+use Rattle.stops.proofs.loading_number.Kinds as loading-number-kinds
+use Rattle.stops.proofs.loading_number.Reads as loading-number
+use Rattle.stops.proofs.loading_place.Kinds as loading-place-kinds
+use Rattle.stops.proofs.loading_place.Reads as loading-place
 
-pub record OneAnswer (f : Refusal) (x : Reckoned) (d : DeckFault) (b : Bar) (k : Stop) (o : Outcome) (e : Ending) (l : Loading) : Type 0 where
-  pub refusal-number : One (refusalNumber f)
-  pub reckoned-number : One (reckonedNumber x)
-  pub reckoned-word : One (reckonedWord x)
-  pub deck-number : One (deckNumber d)
-  pub deck-place : One (deckPlace d)
-  pub bar-number : One (barNumber b)
-  pub bar-place : One (barPlace b)
-  pub stop-number : One (stopNumber k)
-  pub outcome-number : One (outcomeNumber o)
-  pub outcome-shown : One (outcomeShown o)
-  pub ending-number : One (endingNumber e)
-  pub ending-place : One (endingPlace e)
-  pub ending-shown : One (endingShown e)
-  pub loading-number : One (loadingNumber l)
-  pub loading-place : One (loadingPlace l)
+-- of two calls with the same arguments that meet a contract, what holds of both results and of all that is left; n slices are lent
+abbrev pub Agrees : (n : ℕ) (ps : List (PK n)) (r : RK n) → Out n ps r
+    → ((κs : Lfts n) → resT r κs .Denot → resT r κs .Denot → AtExit (endedOf n ps r) κs → AtExit (endedOf n ps r) κs → Type 0)
+    → Type 0
+Agrees n ps r Post Same = (κs : Lfts n) (a : Dens κs ps) (x y : resT r κs .Denot) (s t : AtExit (endedOf n ps r) κs)
+    → Post κs a x s
+    → Post κs a y t
+    → Same κs x y s t
 
-pub one-answer : (f : Refusal) (x : Reckoned) (d : DeckFault) (b : Bar) (k : Stop) (o : Outcome) (e : Ending) (l : Loading) → OneAnswer f x d b k o e l
-one-answer f x d b k o e l =
-    record {
-      refusal-number = one (refusalNumber f);
-      reckoned-number = one (reckonedNumber x);
-      reckoned-word = one (reckonedWord x);
-      deck-number = one (deckNumber d);
-      deck-place = one (deckPlace d);
-      bar-number = one (barNumber b);
-      bar-place = one (barPlace b);
-      stop-number = one (stopNumber k);
-      outcome-number = one (outcomeNumber o);
-      outcome-shown = one (outcomeShown o);
-      ending-number = one (endingNumber e);
-      ending-place = one (endingPlace e);
-      ending-shown = one (endingShown e);
-      loading-number = one (loadingNumber l);
-      loading-place = one (loadingPlace l);
-    }
+pub one-refusal-number : Agrees 0 refusal-number-kinds.ps refusal-number-kinds.r refusal-number.Post (λ κs x y s t. x ≡ y)
+one-refusal-number κs a x y s t p q = p ∙ sym q
+
+pub one-reckoned-number : Agrees 0 reckoned-number-kinds.ps reckoned-number-kinds.r reckoned-number.Post (λ κs x y s t. x ≡ y)
+one-reckoned-number κs a x y s t p q = p ∙ sym q
+
+pub one-reckoned-word : Agrees 0 reckoned-word-kinds.ps reckoned-word-kinds.r reckoned-word.Post (λ κs x y s t. x ≡ y)
+one-reckoned-word κs a x y s t p q = p ∙ sym q
+
+pub one-deck-number : Agrees 0 deck-number-kinds.ps deck-number-kinds.r deck-number.Post (λ κs x y s t. x ≡ y)
+one-deck-number κs a x y s t p q = p ∙ sym q
+
+pub one-deck-place : Agrees 0 deck-place-kinds.ps deck-place-kinds.r deck-place.Post (λ κs x y s t. x ≡ y)
+one-deck-place κs a x y s t p q = p ∙ sym q
+
+pub one-bar-number : Agrees 0 bar-number-kinds.ps bar-number-kinds.r bar-number.Post (λ κs x y s t. x ≡ y)
+one-bar-number κs a x y s t p q = p ∙ sym q
+
+pub one-bar-place : Agrees 0 bar-place-kinds.ps bar-place-kinds.r bar-place.Post (λ κs x y s t. x ≡ y)
+one-bar-place κs a x y s t p q = p ∙ sym q
+
+pub one-stop-number : Agrees 0 stop-number-kinds.ps stop-number-kinds.r stop-number.Post (λ κs x y s t. x ≡ y)
+one-stop-number κs a x y s t p q = p ∙ sym q
+
+pub one-outcome-number : Agrees 0 outcome-number-kinds.ps outcome-number-kinds.r outcome-number.Post (λ κs x y s t. x ≡ y)
+one-outcome-number κs a x y s t p q = p ∙ sym q
+
+pub one-outcome-shown : Agrees 0 outcome-shown-kinds.ps outcome-shown-kinds.r outcome-shown.Post (λ κs x y s t. x ≡ y)
+one-outcome-shown κs a x y s t p q = p ∙ sym q
+
+pub one-may-go-on : Agrees 0 may-go-on-kinds.ps may-go-on-kinds.r may-go-on.Post (λ κs x y s t. x ≡ y)
+one-may-go-on κs a x y s t p q = p ∙ sym q
+
+pub one-completed-by : Agrees 0 completed-by-kinds.ps completed-by-kinds.r completed-by.Post (λ κs x y s t. x ≡ y)
+one-completed-by κs a x y s t p q = p ∙ sym q
+
+pub one-ending-number : Agrees 0 ending-number-kinds.ps ending-number-kinds.r ending-number.Post (λ κs x y s t. x ≡ y)
+one-ending-number κs a x y s t p q = p ∙ sym q
+
+pub one-ending-place : Agrees 0 ending-place-kinds.ps ending-place-kinds.r ending-place.Post (λ κs x y s t. x ≡ y)
+one-ending-place κs a x y s t p q = p ∙ sym q
+
+pub one-ending-shown : Agrees 0 ending-shown-kinds.ps ending-shown-kinds.r ending-shown.Post (λ κs x y s t. x ≡ y)
+one-ending-shown κs a x y s t p q = p ∙ sym q
+
+pub one-loading-number : Agrees 0 loading-number-kinds.ps loading-number-kinds.r loading-number.Post (λ κs x y s t. x ≡ y)
+one-loading-number κs a x y s t p q = p ∙ sym q
+
+pub one-loading-place : Agrees 0 loading-place-kinds.ps loading-place-kinds.r loading-place.Post (λ κs x y s t. x ≡ y)
+one-loading-place κs a x y s t p q = p ∙ sym q

@@ -18,6 +18,10 @@ use Rattle.words.proofs.address_in.Kinds as address-in-kinds
 use Rattle.words.proofs.address_in.Reads as address-in
 use Rattle.words.proofs.worth_of.Kinds as worth-of-kinds
 use Rattle.words.proofs.worth_of.Reads as worth-of
+use Rattle.words.proofs.changes.new_address.Kinds as new-address-kinds
+use Rattle.words.proofs.changes.new_address.Reads as new-address
+use Rattle.words.proofs.changes.linked_word.Kinds as linked-word-kinds
+use Rattle.words.proofs.changes.linked_word.Reads as linked-word
 
 -- of two calls with the same arguments that meet a contract, what holds of both results and of all that is left; n slices are lent
 abbrev pub Agrees : (n : ℕ) (ps : List (PK n)) (r : RK n) → Out n ps r
@@ -46,3 +50,9 @@ one-address κs a x y s t p q = p ∙ sym q
 
 pub one-worth : Agrees 0 worth-of-kinds.ps worth-of-kinds.r worth-of.Post (λ κs x y s t. x ≡ y)
 one-worth κs a x y s t p q = p ∙ sym q
+
+pub one-new-address : Agrees 0 new-address-kinds.ps new-address-kinds.r new-address.Post (λ κs x y s t. x ≡ y)
+one-new-address κs a x y s t p q = p ∙ sym q
+
+pub one-linked-word : Agrees 0 linked-word-kinds.ps linked-word-kinds.r linked-word.Post (λ κs x y s t. x ≡ y)
+one-linked-word κs a x y s t p q = p ∙ sym q

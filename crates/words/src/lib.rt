@@ -1,4 +1,8 @@
 // What stands in a word: its sign, and the parts of an order. Each function takes any number.
+mod changes;
+
+pub use changes::linked_word;
+pub use changes::new_address;
 ghost use mathlib.Core.Path.{_≡_};
 ghost use Prim.Native.Nat.{_≤_, _<_};
 ghost use Rattle.rules.specs.Words.{addressIn, worthOf, exponentIn};

@@ -12,6 +12,9 @@ use Rattle.machine.proofs.changing.change.Tie as tie
 word-requires : tie.Need-word-requires
 word-requires c κs = search needs
 
+cast-changed-word : tie.Need-cast-changed-word
+cast-changed-word c = search needs
+
 changed-word-requires : tie.Need-changed-word-requires
 changed-word-requires c κs =
     let start : tie.Start = search in
@@ -46,6 +49,7 @@ change-spec =
     tie.close
     (tie.spec
     word-requires
+    cast-changed-word
     changed-word-requires
     keep-requires
     go-on-requires

@@ -4,72 +4,54 @@ use borrow.Author.Needs.{needs}
 use Rattle.machine.proofs.entering.state_fits.Statement.{statement}
 use Rattle.machine.proofs.entering.state_fits.Tie as tie
 
-may-stand-requires : tie.Need-may-stand-requires
-may-stand-requires c κs = search needs
+-- the places are many: each from the one behind it
+abbrev second-of : tie.After-and3 → tie.After-and2
+second-of c = search
 
-is-owned-requires : tie.Need-is-owned-requires
-is-owned-requires c κs = search needs
+abbrev first-of : tie.After-and2 → tie.After-and
+first-of c = search
 
-array-read-and : tie.Need-array-read-and
-array-read-and c = search needs
+abbrev owned-of : tie.After-and → tie.After-is-owned
+owned-of c = search
 
-array-read-and-2 : tie.Need-array-read-and-2
-array-read-and-2 c = search needs
-
-array-read-and-3 : tie.Need-array-read-and-3
-array-read-and-3 c = search needs
-
-and-requires : tie.Need-and-requires
-and-requires c κs = search needs
-
-and-requires-2 : tie.Need-and-requires-2
-and-requires-2 c κs = search needs
-
-and-requires-3 : tie.Need-and-requires-3
-and-requires-3 c κs = search needs
-
-and-requires-4 : tie.Need-and-requires-4
-and-requires-4 c κs = search needs
-
-and-requires-5 : tie.Need-and-requires-5
-and-requires-5 c κs = search needs
-
-and-requires-6 : tie.Need-and-requires-6
-and-requires-6 c κs = search needs
-
-and-requires-7 : tie.Need-and-requires-7
-and-requires-7 c κs = search needs
-
-and-requires-8 : tie.Need-and-requires-8
-and-requires-8 c κs = search needs
-
-and-requires-9 : tie.Need-and-requires-9
-and-requires-9 c κs = search needs
-
-and-requires-10 : tie.Need-and-requires-10
-and-requires-10 c κs = search needs
+abbrev stands-of : tie.After-is-owned → tie.After-may-stand
+stands-of c = search
 
 returns : tie.Need-returns
 unfolding stateFits
-returns c = cc
+returns c =
+    let t₁₀ : tie.After-and10 = search in
+    let t₉ : tie.After-and9 = search in
+    let t₈ : tie.After-and8 = search in
+    let t₇ : tie.After-and7 = search in
+    let t₆ : tie.After-and6 = search in
+    let t₅ : tie.After-and5 = search in
+    let t₄ : tie.After-and4 = search in
+    let t₃ : tie.After-and3 = search in
+    let t₂ = second-of t₃ in
+    let t₁ = first-of t₂ in
+    let owned = owned-of t₁ in
+    let stands = stands-of owned in
+    simp (c .and11 .ensures, t₁₀ .and10 .ensures, t₉ .and9 .ensures, t₈ .and8 .ensures, t₇ .and7 .ensures, t₆ .and6 .ensures, t₅ .and5 .ensures, t₄ .and4 .ensures, t₃ .and3 .ensures, t₂ .and2 .ensures, t₁ .and .ensures, stands .may-stand .ensures, owned .is-owned .ensures)
 
 pub state-fits-spec : {M : Type 1} → statement M
 state-fits-spec =
     tie.close
     (tie.spec
-    may-stand-requires
-    is-owned-requires
-    array-read-and
-    array-read-and-2
-    array-read-and-3
-    and-requires
-    and-requires-2
-    and-requires-3
-    and-requires-4
-    and-requires-5
-    and-requires-6
-    and-requires-7
-    and-requires-8
-    and-requires-9
-    and-requires-10
+    (λ c κs. search needs)
+    (λ c κs. search needs)
+    (λ c. search needs)
+    (λ c. search needs)
+    (λ c. search needs)
+    (λ c κs. search needs)
+    (λ c κs. search needs)
+    (λ c κs. search needs)
+    (λ c κs. search needs)
+    (λ c κs. search needs)
+    (λ c κs. search needs)
+    (λ c κs. search needs)
+    (λ c κs. search needs)
+    (λ c κs. search needs)
+    (λ c κs. search needs)
+    (λ c κs. search needs)
     returns)

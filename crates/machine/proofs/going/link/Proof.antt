@@ -1,6 +1,7 @@
 -- `machine::going::link`: the order at c is changed and stored, and is the next. Assumes nothing.
 use mathlib.Core.Path.{_≡_, ap, _∙_}
-use Prim.Native.Nat.{ℕ}
+use native.Mathlib.Omega.{arith}
+use Prim.Native.Nat.{ℕ, _<_, _≤_}
 use Rattle.rules.specs.Words.{digitsIn, withAddress}
 use Rattle.rules.specs.declared.Address.the-variants.{OfC}
 use Rattle.machine.proofs.Shown.{word-is}
@@ -9,8 +10,14 @@ use borrow.Author.Needs.{needs}
 use Rattle.machine.proofs.going.link.Statement.{statement}
 use Rattle.machine.proofs.going.link.Tie as tie
 
+linked-small : (w : ℕ) {b : ℕ} → b < 1000 → withAddress OfC (digitsIn w) b ≤ 19999999999
+linked-small w l = omega arith
+
 word-requires : tie.Need-word-requires
 word-requires c κs = search needs
+
+cast-linked-word : tie.Need-cast-linked-word
+cast-linked-word c = search needs
 
 linked-word-requires : tie.Need-linked-word-requires
 linked-word-requires c κs = search needs
@@ -35,8 +42,8 @@ returns c =
     let new : tie.After-linked-word = search in
     let kept : tie.After-keep = search in
     let a = start .args in
-    stored-went h (a .c) (start .pre .1) (new .linked-word .ensures .1)
-    (new .linked-word .ensures .0 ∙ ap (λ (w : ℕ). withAddress OfC (digitsIn w) (a .b)) (word-is (h .memory) (a .c) (word .word .ensures)))
+    stored-went h (a .c) (start .pre .1) (rw (new .linked-word .ensures) (linked-small _ (start .pre .0)))
+    (new .linked-word .ensures ∙ ap (λ (w : ℕ). withAddress OfC (digitsIn w) (a .b)) (word-is (h .memory) (a .c) (word .word .ensures)))
     (kept .keep .ensures) (a .c) (c .go-to .ensures)
 
 pub link-spec : {M : Type 1} → statement M
@@ -44,6 +51,7 @@ link-spec =
     tie.close
     (tie.spec
     word-requires
+    cast-linked-word
     linked-word-requires
     keep-requires
     go-to-requires

@@ -19,7 +19,7 @@ use Rattle.machine.specs.declared.Ran.{Ran}
 use Rattle.machine.proofs.Boxes.{state-is}
 use Rattle.machine.proofs.Sent.{out-long, written-is}
 use Rattle.machine.proofs.Modes.{mode-kept}
-use Rattle.machine.proofs.Runs.{run-more, run-end, run-out, ended-as}
+use Rattle.machine.proofs.Runs.{run-more, run-end, run-out, at-most-one, ended-as}
 use borrow.Author.Needs.{needs}
 use Rattle.machine.proofs.running.run_on.Statement.{statement}
 use Rattle.machine.proofs.running.run_on.Tie as tie
@@ -146,7 +146,8 @@ completed-by-requires c κs =
 add-ended : tie.Need-add-ended Inv-loop μ-loop
 add-ended c =
     let done : tie.After-step Inv-loop μ-loop = search in
-    omega (arith, c .completed-by .ensures .1, in-of done .loop-test .taken, start-of (at-of (in-of done)) .fits .budget)
+    let one : c .completed-by .result ≤ 1 = rw (c .completed-by .ensures) (at-most-one (done .step .result)) in
+    omega (arith, one, in-of done .loop-test .taken, start-of (at-of (in-of done)) .fits .budget)
 
 ended-requires : tie.Need-ended-requires Inv-loop μ-loop
 ended-requires c κs =
@@ -178,7 +179,7 @@ returns c =
     let d = did done in
     let x : Course = record { outcome = step (lent at) (before at) .outcome; machine = step (lent at) (before at) .machine; count = at .loop .count + completed (step (lent at) (before at) .outcome) } in
     whole at x (sym (at .loop .inv .1 .3) ∙ run-end (lent at) _ (at .loop .count) (before at) (in-of done .loop-test .taken) (ap mayGoOn (sym (d .outcome-is)) ∙ sym (went .may-go-on .ensures) ∙ left .if1 .left))
-    (rw (said .ended .ensures) (ended-as x (done .step .result) (d .shows) (d .outcome-is) (ap (λ (k : ℕ). at .loop .count + k) (one .completed-by .ensures .0 ∙ ap completed (d .outcome-is)))))
+    (rw (said .ended .ensures) (ended-as x (done .step .result) (d .shows) (d .outcome-is) (ap (λ (k : ℕ). at .loop .count + k) (one .completed-by .ensures ∙ ap completed (d .outcome-is)))))
 
 ended-requires-2 : tie.Need-ended-requires-2 Inv-loop μ-loop
 ended-requires-2 c κs =

@@ -1,3 +1,4 @@
+-- `drum::checks::check_block`: the block first, then its cells; from b to c there are c - b + 1. Assumes nothing.
 use Prim.Native.Nat.{ℕ, _+_, _-_, _≤_}
 use mathlib.Core.Path.{_≡_, sym, ap, _∙_}
 use mathlib.Core.Bool.{Bool, true, false}
@@ -9,8 +10,8 @@ use Rattle.rules.specs.Drum.{view}
 use Rattle.rules.specs.declared.Refusal.the-variants.{Unmarked}
 use Rattle.rules.proofs.Tests.{both-first, both-second}
 use borrow.Author.Needs.{needs}
-use Rattle.machine.proofs.checks.check_block.Statement.{statement}
-use Rattle.machine.proofs.checks.check_block.Tie as tie
+use Rattle.drum.proofs.checks.check_block.Statement.{statement}
+use Rattle.drum.proofs.checks.check_block.Tie as tie
 
 fits-is : (c : tie.Else1) → (let start : tie.Start = search in blockFits (start .args .b) (start .args .c) ≡ true)
 fits-is c =
@@ -26,9 +27,6 @@ upward c =
 
 cells-of : (b d : ℕ) → b ≤ d → d + 1 - b ≡ d - b + 1
 cells-of b d l = omega arith
-
-block-fits-requires : tie.Need-block-fits-requires
-block-fits-requires c κs = search needs
 
 returns : tie.Need-returns
 returns c =
@@ -46,9 +44,6 @@ add-all-owned c =
     let test : tie.Else1 = search in
     let u = upward test in
     omega (arith, u .0, u .1)
-
-all-owned-requires : tie.Need-all-owned-requires
-all-owned-requires c κs = search needs
 
 returns-2 : tie.Need-returns-2
 returns-2 c =
@@ -74,10 +69,10 @@ pub check-block-spec : {M : Type 1} → statement M
 check-block-spec =
     tie.close
     (tie.spec
-    block-fits-requires
+    (λ c κs. search needs)
     returns
     sub-n
     add-all-owned
-    all-owned-requires
+    (λ c κs. search needs)
     returns-2
     returns-3)

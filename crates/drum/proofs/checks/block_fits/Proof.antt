@@ -1,7 +1,7 @@
--- `machine::checks::block_fits` meets its contract. Assumes nothing.
+-- `drum::checks::block_fits` meets its contract. Assumes nothing.
 use borrow.Author.Tests.{le-leb, lt-leb}
-use Rattle.machine.proofs.checks.block_fits.Statement.{statement}
-use Rattle.machine.proofs.checks.block_fits.Tie as tie
+use Rattle.drum.proofs.checks.block_fits.Statement.{statement}
+use Rattle.drum.proofs.checks.block_fits.Tie as tie
 
 returns : tie.Need-returns
 returns c = simp (lt-leb _ _ (c .if1 .taken))

@@ -12,19 +12,8 @@ use rules::Refusal;
 fn check_word(drum: &[u64], marks: &[u8], a: usize) -> Checked
     ensures { λ r. ⌜ r ≡ unless (ownedAt (view (now (drum .entry)) (now (marks .entry))) a) Unmarked ⌝ }
 {
-    if drum::is_owned(drum, marks, a) {
+    if crate::is_owned(drum, marks, a) {
         return Checked::Passes;
-    }
-    Checked::Refuses(Refusal::Unmarked)
-}
-
-// 21 for two cells.
-fn check_words(drum: &[u64], marks: &[u8], a: usize, b: usize) -> Checked
-    ensures { λ r. ⌜ r ≡ andThen (unless (ownedAt (view (now (drum .entry)) (now (marks .entry))) a) Unmarked)
-        (unless (ownedAt (view (now (drum .entry)) (now (marks .entry))) b) Unmarked) ⌝ }
-{
-    if drum::is_owned(drum, marks, a) {
-        return check_word(drum, marks, b);
     }
     Checked::Refuses(Refusal::Unmarked)
 }
@@ -47,7 +36,7 @@ fn check_block(drum: &[u64], marks: &[u8], a: usize, b: usize, c: usize) -> Chec
         return Checked::Refuses(Refusal::BadAddress);
     }
     let n = c - b;
-    if drum::all_owned(drum, marks, b, n + 1) {
+    if crate::blocks::all_owned(drum, marks, b, n + 1) {
         return Checked::Passes;
     }
     Checked::Refuses(Refusal::Unmarked)
@@ -59,7 +48,12 @@ pub fn check(drum: &[u64], marks: &[u8], k: Class, a: usize, b: usize, c: usize)
 {
     match k {
         Class::Free => Checked::Passes,
-        Class::TwoNumbers => check_words(drum, marks, a, b),
+        Class::TwoNumbers => {
+            if crate::is_owned(drum, marks, a) {
+                return check_word(drum, marks, b);
+            }
+            Checked::Refuses(Refusal::Unmarked)
+        }
         Class::OneNumber => check_word(drum, marks, b),
         Class::OneWord => check_word(drum, marks, b),
         Class::Changed => {

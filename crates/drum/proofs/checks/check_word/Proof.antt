@@ -1,10 +1,7 @@
--- `machine::checks::check_word`: by the mark. Assumes nothing.
+-- `drum::checks::check_word`: by the mark. Assumes nothing.
 use borrow.Author.Needs.{needs}
-use Rattle.machine.proofs.checks.check_word.Statement.{statement}
-use Rattle.machine.proofs.checks.check_word.Tie as tie
-
-is-owned-requires : tie.Need-is-owned-requires
-is-owned-requires c κs = search needs
+use Rattle.drum.proofs.checks.check_word.Statement.{statement}
+use Rattle.drum.proofs.checks.check_word.Tie as tie
 
 returns : tie.Need-returns
 returns c =
@@ -17,4 +14,4 @@ returns-2 c =
     rw (← owned .is-owned .ensures, c .if1 .left)
 
 pub check-word-spec : {M : Type 1} → statement M
-check-word-spec = tie.close (tie.spec is-owned-requires returns returns-2)
+check-word-spec = tie.close (tie.spec (λ c κs. search needs) returns returns-2)
