@@ -1,5 +1,5 @@
-// Roots, by multiplications: one division would take longer than all of them. Only the answer is promised. That a guess fits is proved,
-// and not how near it is: of every number's root it is the eight digits and their half, or one less.
+// Roots, by multiplications: on many processors three of them take less time than a division. Only the answer is promised. Of a guess it is
+// proved that it fits, and not how near it is: tried for the digits and places of every number, it is the root or one less.
 use crate::rounding::judged;
 use rules::Reckoned;
 ghost use mathlib.Core.Path.{_≡_};

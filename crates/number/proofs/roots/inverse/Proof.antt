@@ -6,11 +6,15 @@ use borrow.Author.Needs.{needs}
 use Rattle.number.proofs.roots.inverse.Statement.{statement}
 use Rattle.number.proofs.roots.inverse.Tie as tie
 
-low : (c : tie.Then1) → (139863600 - 4 * c .before .args .m) * (139863600 - 4 * c .before .args .m) ≤ 10000000000000000
-low c = square (139863600 - 4 * c .before .args .m) 100000000 (omega arith)
+low : (c : tie.Then1) → (let start : tie.Start = search in (139863600 - 4 * start .args .m) * (139863600 - 4 * start .args .m) ≤ 10000000000000000)
+low c =
+    let start : tie.Start = search in
+    square (139863600 - 4 * start .args .m) 100000000 (omega arith)
 
-high : (c : tie.Else1) → (105760000 - c .before .args .m) * (105760000 - c .before .args .m) ≤ 10000000000000000
-high c = square (105760000 - c .before .args .m) 100000000 (omega arith)
+high : (c : tie.Else1) → (let start : tie.Start = search in (105760000 - start .args .m) * (105760000 - start .args .m) ≤ 10000000000000000)
+high c =
+    let start : tie.Start = search in
+    square (105760000 - start .args .m) 100000000 (omega arith)
 
 pub inverse-spec : {M : Type 1} → statement M
 inverse-spec =

@@ -20,10 +20,11 @@ raised b i j plus even =
     ap (λ (n : ℕ). wordOf (settled single 0 (rootHalves single n)))
     (ap (λ (m : ℕ). m * 10 ^ i * 10 ^ (j + j)) l ∙ moved (leadingIn b) (exponentIn b) i j even)
 
-digits : (c : tie.Else1) → Full (c .before .args .b)
-digits c =
-    let start : tie.Start = search in
-    number-full (start .args .b) (start .pre .0) (c .if1 .left)
+abbrev start-of : tie.Else1 → tie.Start
+start-of c = search
+
+digits : (c : tie.Else1) → Full (start-of c .args .b)
+digits c = number-full (start-of c .args .b) (start-of c .pre .0) (c .if1 .left)
 
 returns : tie.Need-returns
 unfolding rootOf settled rootBelow grown

@@ -44,6 +44,11 @@ here c =
 mul-loop2 : tie.Need-mul-loop2 Inv-loop μ-loop Inv-loop2 μ-loop2
 mul-loop2 c = omega (arith, square (c .loop2 .r + 1) 200000000 (omega (arith, here c)))
 
+add-r : tie.Need-add-r Inv-loop μ-loop Inv-loop2 μ-loop2
+add-r c =
+    let at : tie.At-loop2 Inv-loop μ-loop Inv-loop2 μ-loop2 = search in
+    omega (arith, here at)
+
 loop2-less : tie.Need-loop2-less Inv-loop μ-loop Inv-loop2 μ-loop2
 loop2-less c =
     let at : tie.At-loop2 Inv-loop μ-loop Inv-loop2 μ-loop2 = search in
@@ -71,7 +76,7 @@ root-below-spec =
     (λ c. omega (arith, here c))
     (λ c. omega (arith, here c))
     mul-loop2
-    (λ c. omega (arith, here (c .before)))
+    add-r
     loop2-less
     (λ c. c .loop2-test .taken)
     returns)
