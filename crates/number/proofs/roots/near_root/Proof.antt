@@ -1,5 +1,5 @@
 -- `number::roots::near_root` meets its contract: the guess and every product on the way to it fit. Assumes nothing.
-use Prim.Native.Nat.{ℕ, _+_, _*_, _/_, _≤_}
+use Prim.Native.Nat.{ℕ, _*_, _/_, _≤_}
 use native.Mathlib.Omega.{arith}
 use Rattle.number.proofs.Guesses.{square, first, second, third, fourth, fifth, sixth}
 use borrow.Author.Needs.{needs}
