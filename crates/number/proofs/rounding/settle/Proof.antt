@@ -25,7 +25,7 @@ judged-requires : tie.Need-judged-requires
 judged-requires c κs =
     let start : tie.Start = search in
     let a = start .args in
-    (start .pre .sign, eight-digits (a .h) (a .u * 10) (a .k + 1) (next (a .h) (a .u) (a .k) (unit start) (c .if1 .taken)) (omega (arith, start .pre .few)))
+    (start .pre .sign, omega (arith, eight-digits (a .h) (a .u * 10) (a .k + 1) (next (a .h) (a .u) (a .k) (unit start) (c .if1 .taken)) (omega (arith, start .pre .few))))
 
 returns : tie.Need-returns
 returns c x i =
@@ -43,7 +43,7 @@ judged-requires-2 : tie.Need-judged-requires-2
 judged-requires-2 c κs =
     let start : tie.Start = search in
     let a = start .args in
-    (start .pre .sign, eight-digits (a .h) (a .u) (a .k) (unit start) (c .if1 .left))
+    (start .pre .sign, omega (arith, eight-digits (a .h) (a .u) (a .k) (unit start) (c .if1 .left)))
 
 returns-2 : tie.Need-returns-2
 returns-2 c x i =
