@@ -1,6 +1,6 @@
 mod Operands
 mod Units
-mod Newton
+mod Guesses
 mod Aligning
 mod Sizes
 pub mod OneAnswer

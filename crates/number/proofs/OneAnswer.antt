@@ -1,29 +1,44 @@
--- Each public function has one answer: its contract says what the answer equals, and two answers that equal a third are equal.
--- Assumes nothing.
-use Prim.Native.Nat.{ℕ}
-use Rattle.rules.specs.Words.{isNumber}
-use Rattle.rules.specs.Arithmetic.{addOf, subOf, mpyOf, divOf, ngmpyOf, sqrtOf, absOf}
-use Rattle.rules.proofs.Agreed.{One, one}
+-- Each public function has one answer: two that its contract allows for the same arguments are equal. `Post` is the contract of a function,
+-- as it stands at the function. Assumes nothing.
+use mathlib.Core.Path.{sym, _∙_}
+use Rattle.powers.proofs.OneAnswer.{Agrees}
+use Rattle.number.proofs.abs.Kinds as abs-kinds
+use Rattle.number.proofs.abs.Reads as abs
+use Rattle.number.proofs.add.Kinds as add-kinds
+use Rattle.number.proofs.add.Reads as add
+use Rattle.number.proofs.div.Kinds as div-kinds
+use Rattle.number.proofs.div.Reads as div
+use Rattle.number.proofs.is_number.Kinds as is-number-kinds
+use Rattle.number.proofs.is_number.Reads as is-number
+use Rattle.number.proofs.mpy.Kinds as mpy-kinds
+use Rattle.number.proofs.mpy.Reads as mpy
+use Rattle.number.proofs.ngmpy.Kinds as ngmpy-kinds
+use Rattle.number.proofs.ngmpy.Reads as ngmpy
+use Rattle.number.proofs.sqrt.Kinds as sqrt-kinds
+use Rattle.number.proofs.sqrt.Reads as sqrt
+use Rattle.number.proofs.sub.Kinds as sub-kinds
+use Rattle.number.proofs.sub.Reads as sub
 
-pub record OneAnswer (a b : ℕ) : Type 0 where
-  pub is-number : One (isNumber b)
-  pub add : One (addOf a b)
-  pub sub : One (subOf a b)
-  pub mpy : One (mpyOf a b)
-  pub div : One (divOf a b)
-  pub ngmpy : One (ngmpyOf a b)
-  pub sqrt : One (sqrtOf b)
-  pub abs : One (absOf b)
+pub one-test : Agrees is-number-kinds.ps is-number-kinds.r is-number.Post
+one-test κs a x y s t p q = p ∙ sym q
 
-pub one-answer : (a b : ℕ) → OneAnswer a b
-one-answer a b =
-    record {
-      is-number = one (isNumber b);
-      add = one (addOf a b);
-      sub = one (subOf a b);
-      mpy = one (mpyOf a b);
-      div = one (divOf a b);
-      ngmpy = one (ngmpyOf a b);
-      sqrt = one (sqrtOf b);
-      abs = one (absOf b);
-    }
+pub one-sum : Agrees add-kinds.ps add-kinds.r add.Post
+one-sum κs a x y s t p q = p ∙ sym q
+
+pub one-difference : Agrees sub-kinds.ps sub-kinds.r sub.Post
+one-difference κs a x y s t p q = p ∙ sym q
+
+pub one-product : Agrees mpy-kinds.ps mpy-kinds.r mpy.Post
+one-product κs a x y s t p q = p ∙ sym q
+
+pub one-quotient : Agrees div-kinds.ps div-kinds.r div.Post
+one-quotient κs a x y s t p q = p ∙ sym q
+
+pub one-negative-product : Agrees ngmpy-kinds.ps ngmpy-kinds.r ngmpy.Post
+one-negative-product κs a x y s t p q = p ∙ sym q
+
+pub one-root : Agrees sqrt-kinds.ps sqrt-kinds.r sqrt.Post
+one-root κs a x y s t p q = p ∙ sym q
+
+pub one-magnitude : Agrees abs-kinds.ps abs-kinds.r abs.Post
+one-magnitude κs a x y s t p q = p ∙ sym q

@@ -1,57 +1,80 @@
-// Roots. Only the answer is promised, not the way to it.
+// Roots, by multiplications: on many processors three of them take less time than a division. Only the answer is promised. Of a guess it is
+// proved that it fits, and not how near it is: tried for the digits and places of every number, it is the root or one less.
 use crate::rounding::judged;
 use rules::Reckoned;
 ghost use mathlib.Core.Path.{_≡_};
 ghost use mathlib.Core.Bool.{true};
-ghost use Prim.Native.Nat.{_+_, _*_, _/_, _^_, _≤_, _<_};
+ghost use Prim.Native.Nat.{_+_, _-_, _*_, _^_, _≤_, _<_};
 ghost use Rattle.rules.specs.Words.{isNumber};
 ghost use Rattle.rules.specs.Rounding.{single, settled, rootHalves, rootOf};
 ghost use Rattle.rules.specs.Rounded.{RootCut};
 ghost use Rattle.rules.specs.Arithmetic.{valueIn, wordOf};
 
-// Newton's step for the root of n, from the guess r.
-fn step(n: u64, r: u64) -> u64
-    requires { ⌜ (n < 4 * 10 ^ 16) × (0 < r) × (r ≤ 250000000) ⌝ }
-    ensures { λ g. ⌜ g ≡ (r + n / r) / 2 ⌝ }
+// What b leaves of a, or 0 where b is the larger.
+fn left(a: u64, b: u64) -> u64
+    ensures { λ r. ⌜ r ≡ a - b ⌝ }
 {
-    (r + n / r) / 2
+    if b <= a {
+        return a - b;
+    }
+    0
 }
 
-// A first guess: one step from a numeral that is near the root, so that three more steps are enough, or seldom four.
-fn near_root(n: u64) -> u64
-    requires { ⌜ n < 4 * 10 ^ 16 ⌝ }
-    ensures { λ g. ⌜ (n < (g + 1) * (g + 1)) × (g ≤ 250000000) ⌝ }
+// About 33,442,730 over the root of m, at most one part in sixty off: on each of two stretches a square comes so near.
+fn inverse(m: u64) -> u64
+    requires { ⌜ (10 ^ 7 ≤ m) × (m < 10 ^ 8) ⌝ }
+    ensures { λ y. ⌜ y ≤ 12000 ⌝ }
 {
-    if n < 1_260_000_000_000_000 {
-        return step(n, 27_000_000);
+    if m < 32_000_000 {
+        let t = 139_863_600 - 4 * m;
+        return 5_871 + (t * t >> 41);
     }
-    if n < 4_000_000_000_000_000 {
-        return step(n, 47_000_000);
-    }
-    if n < 12_600_000_000_000_000 {
-        return step(n, 84_000_000);
-    }
-    step(n, 150_000_000)
+    let t = 105_760_000 - m;
+    3_380 + (t * t >> 41)
 }
 
-// The root of n, cut to a whole number: Newton's steps from above.
-fn root_below(n: u64) -> u64
-    requires { ⌜ n < 4 * 10 ^ 16 ⌝ }
+// What that inverse y of m is multiplied by, so that three parts in a million are left: by a square once more.
+fn nearer(m: u64, y: u64) -> u64
+    requires { ⌜ (m < 10 ^ 8) × (y ≤ 12000) ⌝ }
+    ensures { λ f. ⌜ f ≤ 1400000000 ⌝ }
+{
+    let t = left(111_100_997, m * y * y >> 24);
+    588_230_948 + (t * t >> 24)
+}
+
+// A guess for the root of n, which is m times a numeral: c makes the inverse of m a root of n, a little too small, and d makes it the
+// inverse of twice that root, by which what the guess's square leaves of n is made up for.
+fn near_root(n: u64, m: u64, c: u64, d: u64) -> u64
+    requires { ⌜ (n < 4 * 10 ^ 16) × (10 ^ 7 ≤ m) × (m < 10 ^ 8) × (c < 2 ^ 26) × (d < 2 ^ 18) ⌝ }
+    ensures { λ g. ⌜ g ≤ 4000000000 ⌝ }
+{
+    let y = inverse(m);
+    let f = nearer(m, y);
+    let g = ((m * c >> 21) * y >> 14) * f >> 31;
+    g + ((left(n, g * g) >> 20) * ((y * f >> 20) * d >> 20) >> 26)
+}
+
+// The root of n, cut to a whole number, from any guess.
+fn root_below(n: u64, guess: u64) -> u64
+    requires { ⌜ (n < 4 * 10 ^ 16) × (guess ≤ 4000000000) ⌝ }
     ensures { λ r. ⌜ RootCut n r ⌝ }
 {
-    let mut r = near_root(n);
+    let mut r = guess;
     while n < r * r {
-        r = step(n, r);
+        r = r - 1;
+    }
+    while (r + 1) * (r + 1) <= n {
+        r = r + 1;
     }
     r
 }
 
 // The root of n times an even power of ten, where the root of n has eight digits and, rounded, no more.
-fn even_root(n: u64, j: u64) -> Reckoned
-    requires { ⌜ (10 ^ 14 ≤ n) × (n ≤ 9999999900000000) × (j ≤ 174) ⌝ }
+fn even_root(n: u64, guess: u64, j: u64) -> Reckoned
+    requires { ⌜ (10 ^ 14 ≤ n) × (n ≤ 9999999900000000) × (guess ≤ 4000000000) × (j ≤ 174) ⌝ }
     ensures { λ r. ⌜ r ≡ wordOf (settled single 0 (rootHalves single (n * 10 ^ (j + j)))) ⌝ }
 {
-    judged(0, (root_below(4 * n) + 1) / 2, j)
+    judged(0, (root_below(4 * n, guess) + 1) / 2, j)
 }
 
 // The root of a number that is not below zero: its digits are moved up by seven or eight places, so that an even power is left.
@@ -65,7 +88,9 @@ pub(crate) fn root(b: u64) -> Reckoned
     let m = b / 100;
     let x = b % 100;
     if x % 2 == 0 {
-        return even_root(m * 10_000_000, (x + 250) / 2);
+        let guess = near_root(m * 40_000_000, m, 19_767_043, 259_091);
+        return even_root(m * 10_000_000, guess, (x + 250) / 2);
     }
-    even_root(m * 100_000_000, (x + 249) / 2)
+    let guess = near_root(m * 400_000_000, m, 62_508_878, 81_931);
+    even_root(m * 100_000_000, guess, (x + 249) / 2)
 }

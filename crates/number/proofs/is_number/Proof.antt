@@ -17,23 +17,28 @@ judged least w some word forth back = rw (ne-eqb w 0 some, le-leb w 19999999999 
 
 returns : tie.Need-returns
 unfolding isNumber
-returns c = rw (eq-eqb (c .before .args .w) 0 (c .if1 .taken))
+returns c =
+    let start : tie.Start = search in
+    rw (eq-eqb (start .args .w) 0 (c .if1 .taken))
 
 returns-2 : tie.Need-returns-2
 returns-2 c =
-    let w : ℕ = c .before .before .args .w in
-    judged 1000000000 w (c .before .if1 .left) (omega arith) (λ l. omega arith) (λ l. omega arith)
+    let some : tie.Else1 = search in
+    let start : tie.Start = search in
+    judged 1000000000 (start .args .w) (some .if1 .left) (omega arith) (λ l. omega arith) (λ l. omega arith)
 
 returns-3 : tie.Need-returns-3
 returns-3 c =
-    let w : ℕ = c .before .before .before .args .w in
-    judged 11000000000 w (c .before .before .if1 .left) (omega arith) (λ l. omega arith) (λ l. omega arith)
+    let some : tie.Else1 = search in
+    let start : tie.Start = search in
+    judged 11000000000 (start .args .w) (some .if1 .left) (omega arith) (λ l. omega arith) (λ l. omega arith)
 
 returns-4 : tie.Need-returns-4
 unfolding isNumber
 returns-4 c =
-    let w : ℕ = c .before .before .before .args .w in
-    rw (ne-eqb w 0 (c .before .before .if1 .left), lt-leb w 19999999999 (c .if3 .left))
+    let some : tie.Else1 = search in
+    let start : tie.Start = search in
+    rw (ne-eqb (start .args .w) 0 (some .if1 .left), lt-leb (start .args .w) 19999999999 (c .if3 .left))
 
 pub is-number-spec : {M : Type 1} → statement M
 is-number-spec = tie.close (tie.spec returns returns-2 returns-3 returns-4)

@@ -1,5 +1,6 @@
 -- `number::sub` meets its contract: the sign of the second number is turned. Assumes nothing.
-use mathlib.Core.Path.{_∙_}
+use mathlib.Core.Path.{_≡_, _∙_}
+use mathlib.Core.Bool.{true}
 use native.Mathlib.Omega.{arith}
 use borrow.Author.Tests.{not-true, not-false}
 use Rattle.rules.specs.Words.{both, isNumber}
@@ -11,32 +12,42 @@ use borrow.Author.Needs.{needs}
 use Rattle.number.proofs.sub.Statement.{statement}
 use Rattle.number.proofs.sub.Tie as tie
 
-both-numbers-requires : tie.Need-both-numbers-requires
-both-numbers-requires c κs = search needs
+abbrev start-of : tie.Else1 → tie.Start
+start-of c = search
 
 returns : tie.Need-returns
 unfolding subOf differenceOf
 returns c =
-    let a = c .before .before .args in
-    refused (both (isNumber (a .a)) (isNumber (a .b))) (c .before .both-numbers .ensures) _ (not-true _ (c .if1 .taken))
+    let told : tie.After-both-numbers = search in
+    let start : tie.Start = search in
+    let a = start .args in
+    refused (both (isNumber (a .a)) (isNumber (a .b))) (told .both-numbers .ensures) _ (not-true _ (c .if1 .taken))
 
-sub-plus : tie.Need-sub-plus
-sub-plus c =
-    let a = c .before .before .args in
-    let p = numbers (a .a) (a .b) (c .before .both-numbers .ensures) (not-false _ (c .if1 .left)) in
-    omega (arith, number-word (a .b) (p .1))
+operands : (c : tie.Else1) → (let a = start-of c .args in (isNumber (a .a) ≡ true) × (isNumber (a .b) ≡ true))
+operands c =
+    let told : tie.After-both-numbers = search in
+    numbers (start-of c .args .a) (start-of c .args .b) (told .both-numbers .ensures) (not-false _ (c .if1 .left))
 
 plus-requires : tie.Need-plus-requires
 plus-requires c κs =
-    let a = c .before .before .args in
-    let p = numbers (a .a) (a .b) (c .before .both-numbers .ensures) (not-false _ (c .if1 .left)) in
+    let p = operands c in
     (p .0, p .1, omega arith)
 
 returns-2 : tie.Need-returns-2
 unfolding subOf differenceOf
 returns-2 c =
-    let a = c .before .before .before .args in
-    c .plus .ensures ∙ accepted (both (isNumber (a .a)) (isNumber (a .b))) (c .before .before .both-numbers .ensures) _ (not-false _ (c .before .if1 .left))
+    let good : tie.Else1 = search in
+    let told : tie.After-both-numbers = search in
+    let start : tie.Start = search in
+    let a = start .args in
+    c .plus .ensures ∙ accepted (both (isNumber (a .a)) (isNumber (a .b))) (told .both-numbers .ensures) _ (not-false _ (good .if1 .left))
 
 pub sub-spec : {M : Type 1} → statement M
-sub-spec = tie.close (tie.spec both-numbers-requires returns sub-plus plus-requires returns-2)
+sub-spec =
+    tie.close
+    (tie.spec
+    (λ c κs. search needs)
+    returns
+    (λ c. omega (arith, number-word (start-of c .args .b) (operands c .1)))
+    plus-requires
+    returns-2)

@@ -10,12 +10,6 @@ use Rattle.powers.proofs.Entries.{entry}
 use Rattle.powers.proofs.power.Statement.{statement}
 use Rattle.powers.proofs.power.Tie as tie
 
-mul-result : tie.Need-mul-result
-mul-result c = search needs
-
-array-read-result : tie.Need-array-read-result
-array-read-result c = search needs
-
 -- the table of the source
 abbrev powers : List ℕ
 powers =
@@ -24,10 +18,12 @@ powers =
     10000000000000000 ∷ 100000000000000000 ∷ 1000000000000000000 ∷ 10000000000000000000 ∷ []
 
 returns : tie.Need-returns
-returns c = entry powerOf powers refl (c .before .args .k) (c .if1 .taken)
+returns c =
+    let start : tie.Start = search in
+    entry powerOf powers refl (start .args .k) (c .if1 .taken)
 
 returns-2 : tie.Need-returns-2
 returns-2 c = simp (le-ltb _ _ (c .if1 .left))
 
 pub power-spec : {M : Type 1} → statement M
-power-spec = tie.close (tie.spec mul-result array-read-result returns returns-2)
+power-spec = tie.close (tie.spec (λ c. search needs) (λ c. search needs) returns returns-2)

@@ -18,32 +18,24 @@ use Rattle.number.proofs.products.over.Tie as tie
 returns : tie.Need-returns
 unfolding quotientOf
 returns c =
-    let a = c .before .args in
+    let start : tie.Start = search in
+    let a = start .args in
     let z : leadingIn (a .a) ≡ 0 = omega (arith, c .if1 .taken) in
     sym (ap wordOf (settled-none single (a .s) _ (none-halves _ _ (ap (λ (t : ℕ). t * 10 ^ (exponentIn (a .a) + 57 + 100)) z ∙ zero-mul _))))
 
-mul-settle : tie.Need-mul-settle
-mul-settle c = search needs
-
-mul-settle-2 : tie.Need-mul-settle-2
-mul-settle-2 c = search needs
-
-divisor : (c : tie.Else1) → Full (c .before .args .b)
-divisor c = number-full (c .before .args .b) (c .before .pre .2) (λ z. omega (arith, c .before .pre .3))
+divisor : (c : tie.Start) → Full (c .args .b)
+divisor c = number-full (c .args .b) (c .pre .2) (λ z. omega (arith, c .pre .3))
 
 div-settle : tie.Need-div-settle
-div-settle c = omega (arith, divisor c .leading)
-
-add-settle : tie.Need-add-settle
-add-settle c = search needs
-
-sub-settle : tie.Need-sub-settle
-sub-settle c = search needs
+div-settle c =
+    let start : tie.Start = search in
+    omega (arith, divisor start .leading)
 
 settle-requires : tie.Need-settle-requires
 settle-requires c κs =
-    let a = c .before .args in
-    let p = c .before .pre in
+    let start : tie.Start = search in
+    let a = start .args in
+    let p = start .pre in
     let f : Full (a .a) = number-full (a .a) (p .1) (c .if1 .left) in
     let m : ℕ = leadingIn (a .a) in
     let n : ℕ = leadingIn (a .b) in
@@ -52,14 +44,15 @@ settle-requires c κs =
       unit = refl;
       start = omega arith;
       place = omega arith;
-      full = omega (arith, quotient-least m n (f .leading) (divisor c .leading) (omega arith));
-      few = omega (arith, quotient-most m n (omega arith) (divisor c .leading));
+      full = omega (arith, quotient-least m n (f .leading) (divisor start .leading) (omega arith));
+      few = omega (arith, quotient-most m n (omega arith) (divisor start .leading));
     }
 
 returns-2 : tie.Need-returns-2
 unfolding quotientOf
 returns-2 c =
-    let a = c .before .before .args in
+    let start : tie.Start = search in
+    let a = start .args in
     c .settle .ensures _ (quotient-is (leadingIn (a .a)) (leadingIn (a .b)) (exponentIn (a .a)) (exponentIn (a .b)) (omega arith))
 
 pub over-spec : {M : Type 1} → statement M
@@ -67,10 +60,10 @@ over-spec =
     tie.close
     (tie.spec
     returns
-    mul-settle
-    mul-settle-2
+    (λ c. search needs)
+    (λ c. search needs)
     div-settle
-    add-settle
-    sub-settle
+    (λ c. search needs)
+    (λ c. search needs)
     settle-requires
     returns-2)

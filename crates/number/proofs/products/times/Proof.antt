@@ -12,28 +12,23 @@ use borrow.Author.Needs.{needs}
 use Rattle.number.proofs.products.times.Statement.{statement}
 use Rattle.number.proofs.products.times.Tie as tie
 
-mul-p : tie.Need-mul-p
-mul-p c = omega (arith, product-most (c .args .a) (c .args .b))
-
 returns : tie.Need-returns
 unfolding productOf
 returns c =
-    let a = c .before .args in
+    let start : tie.Start = search in
+    let a = start .args in
     sym (none (a .s) (leadingIn (a .a) * leadingIn (a .b)) (exponentIn (a .a) + exponentIn (a .b) + 43) (c .if1 .taken))
 
 mul-settle : tie.Need-mul-settle
-mul-settle c = omega (arith, product-most (c .before .args .a) (c .before .args .b))
-
-add-settle : tie.Need-add-settle
-add-settle c = search needs
-
-add-settle-2 : tie.Need-add-settle-2
-add-settle-2 c = search needs
+mul-settle c =
+    let start : tie.Start = search in
+    omega (arith, product-most (start .args .a) (start .args .b))
 
 settle-requires : tie.Need-settle-requires
 settle-requires c κs =
-    let a = c .before .args in
-    let p = c .before .pre in
+    let start : tie.Start = search in
+    let a = start .args in
+    let p = start .pre in
     let l : 100000000000000 ≤ leadingIn (a .a) * leadingIn (a .b) =
     product-least (leadingIn (a .a)) (leadingIn (a .b)) (c .if1 .left) (number-leading (a .a) (p .1)) (number-leading (a .b) (p .2)) in
     record {
@@ -48,9 +43,18 @@ settle-requires c κs =
 returns-2 : tie.Need-returns-2
 unfolding productOf
 returns-2 c =
-    let a = c .before .before .args in
+    let start : tie.Start = search in
+    let a = start .args in
     c .settle .ensures _ (whole-halves (leadingIn (a .a) * leadingIn (a .b)) (exponentIn (a .a) + exponentIn (a .b) + 43))
 
 pub times-spec : {M : Type 1} → statement M
 times-spec =
-    tie.close (tie.spec mul-p returns mul-settle add-settle add-settle-2 settle-requires returns-2)
+    tie.close
+    (tie.spec
+    (λ c. omega (arith, product-most (c .args .a) (c .args .b)))
+    returns
+    mul-settle
+    (λ c. search needs)
+    (λ c. search needs)
+    settle-requires
+    returns-2)

@@ -1,49 +1,97 @@
--- `number::roots::near_root` meets its contract: Newton's step from any guess leads to one that is not below the root.
--- Assumes nothing.
-use Prim.Native.Nat.{ℕ, _+_, _*_, _/_, _≤_, _<_}
-use mathlib.Core.Path.{_≡_, sym, subst}
+-- `number::roots::near_root` meets its contract: the guess and every product on the way to it fit. Assumes nothing.
+use Prim.Native.Nat.{ℕ, _*_, _/_, _≤_}
 use native.Mathlib.Omega.{arith}
-use Rattle.number.proofs.Newton.{not-below}
+use Rattle.number.proofs.Guesses.{square, first, second, third, fourth, fifth, sixth}
 use borrow.Author.Needs.{needs}
 use Rattle.number.proofs.roots.near_root.Statement.{statement}
 use Rattle.number.proofs.roots.near_root.Tie as tie
 
-guessed : (n r g : ℕ) → 0 < r → g ≡ (r + n / r) / 2 → (r + n / r) / 2 ≤ 250000000 → (n < (g + 1) * (g + 1)) × (g ≤ 250000000)
-guessed n r g some is few = (subst (λ (v : ℕ). n < (v + 1) * (v + 1)) (sym is) (not-below n r some), omega arith)
+abbrev inverse-of : tie.After-nearer → tie.After-inverse
+inverse-of c = search
 
-step-requires : tie.Need-step-requires
-step-requires c κs = search needs
+abbrev start-of : tie.After-inverse → tie.Start
+start-of c = search
+
+-- the first guess, before it is cut
+abbrev guess : tie.After-nearer → ℕ
+guess c =
+    let inverse = inverse-of c in
+    let a = start-of inverse .args in
+    a .m * a .c / 2097152 * inverse .inverse .result / 16384 * c .nearer .result
+
+guess-fits : (c : tie.After-nearer) → guess c ≤ 3281250000000000000
+guess-fits c =
+    let start : tie.Start = search in
+    let inverse : tie.After-inverse = search in
+    third (start .args .m) (start .args .c) (start .pre .2) (start .pre .3) (inverse .inverse .result) (inverse .inverse .ensures) (c .nearer .result) (c .nearer .ensures)
+
+mul-g : tie.Need-mul-g
+mul-g c =
+    let start : tie.Start = search in
+    omega (arith, first (start .args .m) (start .args .c) (start .pre .2) (start .pre .3))
+
+mul-g-2 : tie.Need-mul-g-2
+mul-g-2 c =
+    let start : tie.Start = search in
+    let inverse : tie.After-inverse = search in
+    omega (arith, second (start .args .m) (start .args .c) (start .pre .2) (start .pre .3) (inverse .inverse .result) (inverse .inverse .ensures))
+
+mul-left : tie.Need-mul-left
+mul-left c = omega (arith, square (guess c / 2147483648) 1600000000 (omega (arith, guess-fits c)))
+
+mul-result : tie.Need-mul-result
+mul-result c =
+    let nearer : tie.After-nearer = search in
+    let inverse : tie.After-inverse = search in
+    omega (arith, fourth (inverse .inverse .result) (nearer .nearer .result) (inverse .inverse .ensures) (nearer .nearer .ensures))
+
+mul-result-2 : tie.Need-mul-result-2
+mul-result-2 c =
+    let nearer : tie.After-nearer = search in
+    let inverse : tie.After-inverse = search in
+    let start : tie.Start = search in
+    omega (arith, fifth (inverse .inverse .result) (nearer .nearer .result) (inverse .inverse .ensures) (nearer .nearer .ensures) (start .args .d) (start .pre .4))
+
+abbrev nearer-of : tie.After-left → tie.After-nearer
+nearer-of c = search
+
+-- what is added to it, before it is cut
+abbrev more : tie.After-left → ℕ
+more c =
+    let nearer = nearer-of c in
+    let inverse = inverse-of nearer in
+    c .left .result / 1048576 * (inverse .inverse .result * nearer .nearer .result / 1048576 * start-of inverse .args .d / 1048576)
+
+more-fits : (c : tie.After-left) → more c ≤ 153000000000000000
+more-fits c =
+    let nearer : tie.After-nearer = search in
+    let inverse : tie.After-inverse = search in
+    let start : tie.Start = search in
+    sixth (inverse .inverse .result) (nearer .nearer .result) (inverse .inverse .ensures) (nearer .nearer .ensures) (start .args .d) (start .pre .4) (c .left .result) (omega (arith, c .left .ensures, start .pre .0))
+
+add-result : tie.Need-add-result
+add-result c =
+    let nearer : tie.After-nearer = search in
+    omega (arith, guess-fits nearer, more-fits c)
 
 returns : tie.Need-returns
-returns c = guessed (c .before .before .args .n) 27000000 (c .step .result) (omega arith) (c .step .ensures) (omega arith)
-
-step-requires-2 : tie.Need-step-requires-2
-step-requires-2 c κs = search needs
-
-returns-2 : tie.Need-returns-2
-returns-2 c = guessed (c .before .before .before .args .n) 47000000 (c .step2 .result) (omega arith) (c .step2 .ensures) (omega arith)
-
-step-requires-3 : tie.Need-step-requires-3
-step-requires-3 c κs = search needs
-
-returns-3 : tie.Need-returns-3
-returns-3 c = guessed (c .before .before .before .before .args .n) 84000000 (c .step3 .result) (omega arith) (c .step3 .ensures) (omega arith)
-
-step-requires-4 : tie.Need-step-requires-4
-step-requires-4 c κs = search needs
-
-returns-4 : tie.Need-returns-4
-returns-4 c = guessed (c .before .before .before .before .args .n) 150000000 (c .step4 .result) (omega arith) (c .step4 .ensures) (omega arith)
+returns c =
+    let nearer : tie.After-nearer = search in
+    omega (arith, guess-fits nearer, more-fits c)
 
 pub near-root-spec : {M : Type 1} → statement M
 near-root-spec =
     tie.close
     (tie.spec
-    step-requires
-    returns
-    step-requires-2
-    returns-2
-    step-requires-3
-    returns-3
-    step-requires-4
-    returns-4)
+    (λ c κs. search needs)
+    (λ c κs. search needs)
+    mul-g
+    mul-g-2
+    (λ c. omega (arith, guess-fits c))
+    mul-left
+    (λ c κs. search needs)
+    mul-result
+    mul-result-2
+    (λ c. omega (arith, more-fits c))
+    add-result
+    returns)

@@ -20,53 +20,64 @@ raised b i j plus even =
     ap (λ (n : ℕ). wordOf (settled single 0 (rootHalves single n)))
     (ap (λ (m : ℕ). m * 10 ^ i * 10 ^ (j + j)) l ∙ moved (leadingIn b) (exponentIn b) i j even)
 
-digits : (c : tie.Else1) → Full (c .before .args .b)
-digits c = number-full (c .before .args .b) (c .before .pre .0) (c .if1 .left)
+abbrev start-of : tie.Else1 → tie.Start
+start-of c = search
+
+digits : (c : tie.Else1) → Full (start-of c .args .b)
+digits c = number-full (start-of c .args .b) (start-of c .pre .0) (c .if1 .left)
 
 returns : tie.Need-returns
 unfolding rootOf settled rootBelow grown
 returns c = subst (λ (b : ℕ). Result 0 ≡ wordOf (rootOf single (valueIn b))) (sym (c .if1 .taken)) refl
 
-mul-even-root : tie.Need-mul-even-root
-mul-even-root c = search needs
-
-add-even-root : tie.Need-add-even-root
-add-even-root c = search needs
+near-root-requires : tie.Need-near-root-requires
+near-root-requires c κs =
+    let some : tie.Else1 = search in
+    omega (arith, digits some .leading)
 
 even-root-requires : tie.Need-even-root-requires
-even-root-requires c κs = omega (arith, digits (c .before) .leading)
+even-root-requires c κs =
+    let some : tie.Else1 = search in
+    omega (arith, digits some .leading, c .near-root .ensures)
 
 returns-2 : tie.Need-returns-2
 returns-2 c =
-    let o = c .before .before .before in
-    let x = exponentIn (o .args .b) in
-    c .even-root .ensures ∙ raised (o .args .b) 7 ((x + 250) / 2) (o .pre .1) (omega (arith, c .before .if2 .taken))
+    let even : tie.Then2 = search in
+    let start : tie.Start = search in
+    let b = start .args .b in
+    c .even-root .ensures ∙ raised b 7 ((exponentIn b + 250) / 2) (start .pre .1) (omega (arith, even .if2 .taken))
 
-mul-even-root-2 : tie.Need-mul-even-root-2
-mul-even-root-2 c = search needs
-
-add-even-root-2 : tie.Need-add-even-root-2
-add-even-root-2 c = search needs
+near-root-requires-2 : tie.Need-near-root-requires-2
+near-root-requires-2 c κs =
+    let some : tie.Else1 = search in
+    omega (arith, digits some .leading)
 
 even-root-requires-2 : tie.Need-even-root-requires-2
-even-root-requires-2 c κs = omega (arith, digits (c .before) .leading)
+even-root-requires-2 c κs =
+    let some : tie.Else1 = search in
+    omega (arith, digits some .leading, c .near-root2 .ensures)
 
 returns-3 : tie.Need-returns-3
 returns-3 c =
-    let o = c .before .before .before in
-    let x = exponentIn (o .args .b) in
-    c .even-root2 .ensures ∙ raised (o .args .b) 8 ((x + 249) / 2) (o .pre .1) (omega (arith, c .before .if2 .left))
+    let odd : tie.Else2 = search in
+    let start : tie.Start = search in
+    let b = start .args .b in
+    c .even-root2 .ensures ∙ raised b 8 ((exponentIn b + 249) / 2) (start .pre .1) (omega (arith, odd .if2 .left))
 
 pub root-spec : {M : Type 1} → statement M
 root-spec =
     tie.close
     (tie.spec
     returns
-    mul-even-root
-    add-even-root
+    (λ c. search needs)
+    near-root-requires
+    (λ c. search needs)
+    (λ c. search needs)
     even-root-requires
     returns-2
-    mul-even-root-2
-    add-even-root-2
+    (λ c. search needs)
+    near-root-requires-2
+    (λ c. search needs)
+    (λ c. search needs)
     even-root-requires-2
     returns-3)

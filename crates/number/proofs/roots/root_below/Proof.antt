@@ -1,45 +1,63 @@
--- `number::roots::root_below` meets its contract: no guess is below the root, and one whose square is too large gives a smaller one.
--- Assumes nothing.
-use Prim.Native.Nat.{ℕ, _+_, _*_, _≤_, _<_}
-use mathlib.Core.Path.{sym, subst}
-use native.Mathlib.Nat.{mul-le-mul}
+-- `number::roots::root_below` meets its contract: from any guess down as far as its square is too large, and then up as far as the next
+-- square is not. Assumes nothing.
+use Prim.Native.Nat.{ℕ, _+_, _-_, _*_, _^_, _≤_, _<_}
 use native.Mathlib.Omega.{arith}
-use Rattle.number.proofs.Newton.{not-below, above-zero, smaller}
+use Rattle.rules.proofs.Roots.{no-larger}
+use Rattle.number.proofs.Guesses.{square, above-zero}
 use Rattle.number.proofs.roots.root_below.Statement.{statement}
 use Rattle.number.proofs.roots.root_below.Tie as tie
 
 abbrev Inv-loop : tie.InvT-loop
-Inv-loop n r₀ r = (n < (r + 1) * (r + 1)) × (r ≤ 250000000)
+Inv-loop n guess r₀ r = r ≤ 4000000000
 
 abbrev μ-loop : tie.MeasureT-loop
-μ-loop n r₀ r = r
+μ-loop n guess r₀ r = r
 
-near-root-requires : tie.Need-near-root-requires Inv-loop μ-loop
-near-root-requires c κs = c .pre
+abbrev Inv-loop2 : tie.InvT-loop2
+Inv-loop2 n guess r₀ r = r * r ≤ n
 
-loop-holds : tie.Need-loop-holds Inv-loop μ-loop
-loop-holds c = c .near-root .ensures
+abbrev μ-loop2 : tie.MeasureT-loop2
+μ-loop2 n guess r₀ r = 200000000 - r
 
-mul-loop : tie.Need-mul-loop Inv-loop μ-loop
-mul-loop c = omega (arith, mul-le-mul (c .loop .inv .1) (c .loop .inv .1))
+-- a number whose square is no more than n
+low : (n r : ℕ) → n < 4 * 10 ^ 16 → r * r ≤ n → r ≤ 199999999
+low n r few l = no-larger n r 199999999 l (omega arith)
 
-step-requires : tie.Need-step-requires Inv-loop μ-loop
-step-requires c κs = (c .before .before .before .pre, above-zero (c .before .before .before .args .n) (c .before .loop .r) (c .loop-test .taken), c .before .loop .inv .1)
+mul-loop : tie.Need-mul-loop Inv-loop μ-loop Inv-loop2 μ-loop2
+mul-loop c = omega (arith, square (c .loop .r) 4000000000 (c .loop .inv))
 
-loop-less : tie.Need-loop-less Inv-loop μ-loop
-loop-less c = omega (arith, c .step .ensures, smaller (c .before .before .before .before .args .n) (c .before .before .loop .r) (c .before .loop-test .taken))
+sub-r : tie.Need-sub-r Inv-loop μ-loop Inv-loop2 μ-loop2
+sub-r c =
+    let at : tie.At-loop Inv-loop μ-loop Inv-loop2 μ-loop2 = search in
+    let start : tie.Start Inv-loop μ-loop Inv-loop2 μ-loop2 = search in
+    above-zero (start .args .n) (at .loop .r) (c .loop-test .taken)
 
-loop-again : tie.Need-loop-again Inv-loop μ-loop
-loop-again c =
-    let n = c .before .before .before .before .args .n in
-    let r = c .before .before .loop .r in
-    let t = c .before .loop-test .taken in (
-      subst (λ (g : ℕ). n < (g + 1) * (g + 1)) (sym (c .step .ensures)) (not-below n r (above-zero n r t)),
-      omega (arith, c .step .ensures, smaller n r t, c .before .before .loop .inv .1),
-    )
+loop-less : tie.Need-loop-less Inv-loop μ-loop Inv-loop2 μ-loop2
+loop-less c = omega (arith, sub-r c)
 
-returns : tie.Need-returns Inv-loop μ-loop
-returns c = record { reached = c .loop-test .left; notPassed = c .before .loop .inv .0 }
+-- the root of n is small, so its next number's square fits
+here : (c : tie.At-loop2 Inv-loop μ-loop Inv-loop2 μ-loop2) → c .loop2 .r ≤ 199999999
+here c =
+    let start : tie.Start Inv-loop μ-loop Inv-loop2 μ-loop2 = search in
+    low (start .args .n) (c .loop2 .r) (start .pre .0) (c .loop2 .inv)
+
+mul-loop2 : tie.Need-mul-loop2 Inv-loop μ-loop Inv-loop2 μ-loop2
+mul-loop2 c = omega (arith, square (c .loop2 .r + 1) 200000000 (omega (arith, here c)))
+
+add-r : tie.Need-add-r Inv-loop μ-loop Inv-loop2 μ-loop2
+add-r c =
+    let at : tie.At-loop2 Inv-loop μ-loop Inv-loop2 μ-loop2 = search in
+    omega (arith, here at)
+
+loop2-less : tie.Need-loop2-less Inv-loop μ-loop Inv-loop2 μ-loop2
+loop2-less c =
+    let at : tie.At-loop2 Inv-loop μ-loop Inv-loop2 μ-loop2 = search in
+    omega (arith, here at)
+
+returns : tie.Need-returns Inv-loop μ-loop Inv-loop2 μ-loop2
+returns c =
+    let at : tie.At-loop2 Inv-loop μ-loop Inv-loop2 μ-loop2 = search in
+    record { reached = at .loop2 .inv; notPassed = c .loop2-test .left }
 
 pub root-below-spec : {M : Type 1} → statement M
 root-below-spec =
@@ -47,10 +65,18 @@ root-below-spec =
     (tie.spec
     Inv-loop
     μ-loop
-    near-root-requires
-    loop-holds
+    Inv-loop2
+    μ-loop2
+    (λ c. c .pre .1)
     mul-loop
-    step-requires
+    sub-r
     loop-less
-    loop-again
+    (λ c. omega arith)
+    (λ c. c .loop-test .left)
+    (λ c. omega (arith, here c))
+    (λ c. omega (arith, here c))
+    mul-loop2
+    add-r
+    loop2-less
+    (λ c. c .loop2-test .taken)
     returns)

@@ -10,30 +10,30 @@ use Rattle.number.proofs.rounding.judged.Tie as tie
 
 returns : tie.Need-returns
 returns c =
-    let a = c .before .args in
+    let start : tie.Start = search in
+    let a = start .args in
     sym (ap wordOf (placed-below single (a .s) (a .m) (a .e) (c .if1 .taken)))
 
 returns-2 : tie.Need-returns-2
 returns-2 c =
-    let a = c .before .before .args in
+    let start : tie.Start = search in
+    let a = start .args in
     sym (ap wordOf (placed-above single (a .s) (a .m) (a .e) (c .if2 .taken)))
-
-mul-t7 : tie.Need-mul-t7
-mul-t7 c = search needs
-
-mul-t8 : tie.Need-mul-t8
-mul-t8 c = search needs
-
-add-t9 : tie.Need-add-t9
-add-t9 c = search needs
-
-add-t11 : tie.Need-add-t11
-add-t11 c = search needs
 
 returns-3 : tie.Need-returns-3
 returns-3 c =
-    let a = c .before .before .args in
+    let start : tie.Start = search in
+    let a = start .args in
     sym (ap wordOf (placed-within single (a .s) (a .m) (a .e) (search needs) (c .if2 .left)))
 
 pub judged-spec : {M : Type 1} → statement M
-judged-spec = tie.close (tie.spec returns returns-2 mul-t7 mul-t8 add-t9 add-t11 returns-3)
+judged-spec =
+    tie.close
+    (tie.spec
+    returns
+    returns-2
+    (λ c. search needs)
+    (λ c. search needs)
+    (λ c. search needs)
+    (λ c. search needs)
+    returns-3)

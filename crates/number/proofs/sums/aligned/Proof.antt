@@ -10,76 +10,67 @@ use borrow.Author.Needs.{needs}
 use Rattle.number.proofs.sums.aligned.Statement.{statement}
 use Rattle.number.proofs.sums.aligned.Tie as tie
 
-sub-apart : tie.Need-sub-apart
-sub-apart c = search needs
-
-add-judged : tie.Need-add-judged
-add-judged c = search needs
-
-judged-requires : tie.Need-judged-requires
-judged-requires c κs = search needs
-
 returns : tie.Need-returns
 returns c =
-    let o = c .before .before in
-    let a = o .args in
-    c .judged .ensures ∙ ap wordOf (far (a .s) (a .m) (a .x) (a .t) (a .n) (a .y) (o .pre) (c .before .if1 .taken))
+    let apart : tie.Then1 = search in
+    let start : tie.Start = search in
+    let a = start .args in
+    c .judged .ensures ∙ ap wordOf (far (a .s) (a .m) (a .x) (a .t) (a .n) (a .y) (start .pre) (apart .if1 .taken))
 
-power-requires : tie.Need-power-requires
-power-requires c κs = search needs
+abbrev start-of : tie.After-power → tie.Start
+start-of c = search
 
-moved : (c : tie.After-power) → c .before .before .args .m * c .power .result ≤ 99999999000000000
+moved : (c : tie.After-power) → start-of c .args .m * c .power .result ≤ 99999999000000000
 moved c =
-    let o = c .before .before in
-    let a = o .args in
-    few (a .s) (a .m) (a .x) (a .t) (a .n) (a .y) (o .pre) (c .power .result) (c .before .if1 .left) (c .power .ensures)
-
-mul-p : tie.Need-mul-p
-mul-p c = omega (arith, moved c)
-
-kept-requires : tie.Need-kept-requires
-kept-requires c κs = search needs
+    let near : tie.Else1 = search in
+    let a = start-of c .args in
+    few (a .s) (a .m) (a .x) (a .t) (a .n) (a .y) (start-of c .pre) (c .power .result) (near .if1 .left) (c .power .ensures)
 
 joined-requires : tie.Need-joined-requires
-joined-requires c κs = (omega (arith, moved (c .before)), omega (arith, c .before .before .before .pre .other))
-
-add-total : tie.Need-add-total
-add-total c = search needs
+joined-requires c κs =
+    let power : tie.After-power = search in
+    (omega (arith, moved power), omega (arith, start-of power .pre .other))
 
 total-requires : tie.Need-total-requires
 total-requires c κs =
-    let o = c .before .before .before .before in
-    let a = o .args in
-    let p : ℕ = a .m * c .before .before .power .result in (
-      omega (arith, c .before .kept .ensures, kept-sign (leb (a .n) p) (a .s) (a .t) (o .pre .first) (o .pre .second)),
-      omega (arith, c .joined .ensures, joined-most (eqb (a .s) (a .t)) (leb (a .n) p) p (a .n), moved (c .before .before), o .pre .other),
+    let kept : tie.After-kept = search in
+    let power : tie.After-power = search in
+    let start : tie.Start = search in
+    let a = start .args in
+    let p : ℕ = a .m * power .power .result in (
+      omega (arith, kept .kept .ensures, kept-sign (leb (a .n) p) (a .s) (a .t) (start .pre .first) (start .pre .second)),
+      omega (arith, c .joined .ensures, joined-most (eqb (a .s) (a .t)) (leb (a .n) p) p (a .n), moved power, start .pre .other),
       omega arith,
-      omega (arith, o .pre .top, o .pre .order),
+      omega (arith, start .pre .top, start .pre .order),
     )
 
 returns-2 : tie.Need-returns-2
 returns-2 c =
-    let o = c .before .before .before .before .before in
-    let a = o .args in
-    let r = c .before .before .before .power in
-    let v = c .before .joined in
-    let z = c .before .before .kept in
+    let joined : tie.After-joined = search in
+    let kept : tie.After-kept = search in
+    let power : tie.After-power = search in
+    let near : tie.Else1 = search in
+    let start : tie.Start = search in
+    let a = start .args in
+    let r = power .power in
+    let v = joined .joined in
+    let z = kept .kept in
     c .total .ensures
     ∙ ap wordOf
-    (near-sum (a .s) (a .m) (a .x) (a .t) (a .n) (a .y) (o .pre) (r .result) (c .before .before .before .before .if1 .left) (r .ensures) (z .result) (v .result) (z .ensures) (v .ensures))
+    (near-sum (a .s) (a .m) (a .x) (a .t) (a .n) (a .y) (start .pre) (r .result) (near .if1 .left) (r .ensures) (z .result) (v .result) (z .ensures) (v .ensures))
 
 pub aligned-spec : {M : Type 1} → statement M
 aligned-spec =
     tie.close
     (tie.spec
-    sub-apart
-    add-judged
-    judged-requires
+    (λ c. search needs)
+    (λ c. search needs)
+    (λ c κs. search needs)
     returns
-    power-requires
-    mul-p
-    kept-requires
+    (λ c κs. search needs)
+    (λ c. omega (arith, moved c))
+    (λ c κs. search needs)
     joined-requires
-    add-total
+    (λ c. search needs)
     total-requires
     returns-2)

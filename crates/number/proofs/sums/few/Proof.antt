@@ -17,42 +17,63 @@ abbrev μ-loop : tie.MeasureT-loop
 μ-loop s v j w₀ i₀ w i = 10000000 - w
 
 returns : tie.Need-returns Inv-loop μ-loop
-returns c = sym (none (c .before .args .s) (c .before .args .v) (c .before .args .j) (c .if1 .taken))
+returns c =
+    let start : tie.Start Inv-loop μ-loop = search in
+    let a = start .args in
+    sym (none (a .s) (a .v) (a .j) (c .if1 .taken))
 
 loop-holds : tie.Need-loop-holds Inv-loop μ-loop
-loop-holds c = record { made = omega arith; some = omega (arith, c .if1 .left); few = omega (arith, c .before .pre .1) }
-
-mul-w : tie.Need-mul-w Inv-loop μ-loop
-mul-w c = omega (arith, c .loop-test .taken)
+loop-holds c =
+    let start : tie.Start Inv-loop μ-loop = search in
+    record { made = omega arith; some = omega (arith, c .if1 .left); few = omega (arith, start .pre .1) }
 
 low : (c : tie.At-loop Inv-loop μ-loop) → c .loop .i ≤ 7
-low c = finer-low (c .before .before .args .v) (c .loop .w) (c .loop .i) (omega (arith, c .before .if1 .left)) (c .loop .inv)
+low c =
+    let some : tie.Else1 Inv-loop μ-loop = search in
+    let start : tie.Start Inv-loop μ-loop = search in
+    finer-low (start .args .v) (c .loop .w) (c .loop .i) (omega (arith, some .if1 .left)) (c .loop .inv)
 
 add-i : tie.Need-add-i Inv-loop μ-loop
-add-i c = omega (arith, low (c .before))
+add-i c =
+    let at : tie.At-loop Inv-loop μ-loop = search in
+    omega (arith, low at)
 
 loop-less : tie.Need-loop-less Inv-loop μ-loop
-loop-less c = omega (arith, c .loop-test .taken, c .before .loop .inv .some)
+loop-less c =
+    let at : tie.At-loop Inv-loop μ-loop = search in
+    omega (arith, c .loop-test .taken, at .loop .inv .some)
 
 loop-again : tie.Need-loop-again Inv-loop μ-loop
-loop-again c = finer-more (c .before .before .before .args .v) (c .before .loop .w) (c .before .loop .i) (c .before .loop .inv) (c .loop-test .taken)
+loop-again c =
+    let at : tie.At-loop Inv-loop μ-loop = search in
+    let start : tie.Start Inv-loop μ-loop = search in
+    finer-more (start .args .v) (at .loop .w) (at .loop .i) (at .loop .inv) (c .loop-test .taken)
 
 sub-judged : tie.Need-sub-judged Inv-loop μ-loop
-sub-judged c = omega (arith, low (c .before), c .before .before .before .pre .2)
+sub-judged c =
+    let at : tie.At-loop Inv-loop μ-loop = search in
+    let start : tie.Start Inv-loop μ-loop = search in
+    omega (arith, low at, start .pre .2)
 
 judged-requires : tie.Need-judged-requires Inv-loop μ-loop
-judged-requires c κs = (c .before .before .before .pre .0, c .before .loop .inv .few)
+judged-requires c κs =
+    let at : tie.At-loop Inv-loop μ-loop = search in
+    let start : tie.Start Inv-loop μ-loop = search in
+    (start .pre .0, at .loop .inv .few)
 
 returns-2 : tie.Need-returns-2 Inv-loop μ-loop
 returns-2 c =
-    let a = c .before .before .before .before .args in
-    let w = c .before .before .loop .w in
-    let i = c .before .before .loop .i in
-    let f = c .before .before .loop .inv in
+    let done : tie.After-loop Inv-loop μ-loop = search in
+    let at : tie.At-loop Inv-loop μ-loop = search in
+    let start : tie.Start Inv-loop μ-loop = search in
+    let a = start .args in
+    let w = at .loop .w in
+    let i = at .loop .i in
+    let f = at .loop .inv in
     c .judged .ensures
     ∙ sym
     (ap wordOf
-    (eight-already (2 * w) (a .s) (a .j - i) _ (omega (arith, c .before .loop-test .left)) (omega (arith, f .few)) (finer-is (a .v) w i (a .j) f (omega (arith, low (c .before .before), c .before .before .before .before .pre .2)))
+    (eight-already (2 * w) (a .s) (a .j - i) _ (omega (arith, done .loop-test .left)) (omega (arith, f .few)) (finer-is (a .v) w i (a .j) f (omega (arith, low at, start .pre .2)))
     ∙ ap (λ m. placed single (a .s) m (a .j - i)) (omega arith)))
 
 pub few-spec : {M : Type 1} → statement M
@@ -63,7 +84,7 @@ few-spec =
     μ-loop
     returns
     loop-holds
-    mul-w
+    (λ c. omega (arith, c .loop-test .taken))
     add-i
     loop-less
     loop-again

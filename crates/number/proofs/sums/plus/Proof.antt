@@ -28,8 +28,9 @@ taken-apart a b s t na ls lt order =
 
 aligned-requires : tie.Need-aligned-requires
 aligned-requires c κs =
-    let a = c .before .args in
-    let p = c .before .pre in
+    let start : tie.Start = search in
+    let a = start .args in
+    let p = start .pre in
     taken-apart (a .b) (a .a) (a .t) (signIn (a .a)) (p .1) (p .2) (omega (arith, number-word (a .a) (p .0))) (omega (arith, c .if1 .taken))
 
 returns : tie.Need-returns
@@ -37,12 +38,10 @@ returns c = c .aligned .ensures ∙ ap wordOf (sum-swaps single _ _ _ _)
 
 aligned-requires-2 : tie.Need-aligned-requires-2
 aligned-requires-2 c κs =
-    let a = c .before .args in
-    let p = c .before .pre in
+    let start : tie.Start = search in
+    let a = start .args in
+    let p = start .pre in
     taken-apart (a .a) (a .b) (signIn (a .a)) (a .t) (p .0) (omega (arith, number-word (a .a) (p .0))) (p .2) (c .if1 .left)
 
-returns-2 : tie.Need-returns-2
-returns-2 c = search needs
-
 pub plus-spec : {M : Type 1} → statement M
-plus-spec = tie.close (tie.spec aligned-requires returns aligned-requires-2 returns-2)
+plus-spec = tie.close (tie.spec aligned-requires returns aligned-requires-2 (λ c. search needs))
