@@ -1,50 +1,79 @@
--- Each function here has one answer: its contract says what the answer equals, and two answers that equal a third are equal.
--- Assumes nothing.
-use Rattle.rules.specs.Numbers.{refusalNumber, reckonedNumber, reckonedWord, deckNumber, deckPlace, barNumber, barPlace}
-use Rattle.rules.specs.Numbers.{stopNumber, outcomeNumber, outcomeShown, endingNumber, endingPlace, endingShown, loadingNumber, loadingPlace}
-use Rattle.rules.specs.declared.Refusal.{Refusal}
-use Rattle.rules.specs.declared.Reckoned.{Reckoned}
-use Rattle.rules.specs.declared.DeckFault.{DeckFault}
-use Rattle.rules.specs.declared.Bar.{Bar}
-use Rattle.rules.specs.declared.Stop.{Stop}
-use Rattle.rules.specs.declared.Outcome.{Outcome}
-use Rattle.rules.specs.declared.Ending.{Ending}
-use Rattle.rules.specs.declared.Loading.{Loading}
-use Rattle.rules.proofs.Agreed.{One, one}
+-- Each public function has one answer: two that its contract allows for the same argument are equal.
+-- `Post` is the contract of a function, as it stands at the function. Assumes nothing.
+use mathlib.Core.Path.{sym, _∙_}
+use Rattle.rules.proofs.Agreed.{OneResult}
+use Rattle.stops.proofs.refusal_number.Kinds as refusal-number-kinds
+use Rattle.stops.proofs.refusal_number.Reads as refusal-number
+use Rattle.stops.proofs.reckoned_number.Kinds as reckoned-number-kinds
+use Rattle.stops.proofs.reckoned_number.Reads as reckoned-number
+use Rattle.stops.proofs.reckoned_word.Kinds as reckoned-word-kinds
+use Rattle.stops.proofs.reckoned_word.Reads as reckoned-word
+use Rattle.stops.proofs.deck_number.Kinds as deck-number-kinds
+use Rattle.stops.proofs.deck_number.Reads as deck-number
+use Rattle.stops.proofs.deck_place.Kinds as deck-place-kinds
+use Rattle.stops.proofs.deck_place.Reads as deck-place
+use Rattle.stops.proofs.bar_number.Kinds as bar-number-kinds
+use Rattle.stops.proofs.bar_number.Reads as bar-number
+use Rattle.stops.proofs.bar_place.Kinds as bar-place-kinds
+use Rattle.stops.proofs.bar_place.Reads as bar-place
+use Rattle.stops.proofs.stop_number.Kinds as stop-number-kinds
+use Rattle.stops.proofs.stop_number.Reads as stop-number
+use Rattle.stops.proofs.outcome_number.Kinds as outcome-number-kinds
+use Rattle.stops.proofs.outcome_number.Reads as outcome-number
+use Rattle.stops.proofs.outcome_shown.Kinds as outcome-shown-kinds
+use Rattle.stops.proofs.outcome_shown.Reads as outcome-shown
+use Rattle.stops.proofs.ending_number.Kinds as ending-number-kinds
+use Rattle.stops.proofs.ending_number.Reads as ending-number
+use Rattle.stops.proofs.ending_place.Kinds as ending-place-kinds
+use Rattle.stops.proofs.ending_place.Reads as ending-place
+use Rattle.stops.proofs.ending_shown.Kinds as ending-shown-kinds
+use Rattle.stops.proofs.ending_shown.Reads as ending-shown
+use Rattle.stops.proofs.loading_number.Kinds as loading-number-kinds
+use Rattle.stops.proofs.loading_number.Reads as loading-number
+use Rattle.stops.proofs.loading_place.Kinds as loading-place-kinds
+use Rattle.stops.proofs.loading_place.Reads as loading-place
 
-pub record OneAnswer (f : Refusal) (x : Reckoned) (d : DeckFault) (b : Bar) (k : Stop) (o : Outcome) (e : Ending) (l : Loading) : Type 0 where
-  pub refusal-number : One (refusalNumber f)
-  pub reckoned-number : One (reckonedNumber x)
-  pub reckoned-word : One (reckonedWord x)
-  pub deck-number : One (deckNumber d)
-  pub deck-place : One (deckPlace d)
-  pub bar-number : One (barNumber b)
-  pub bar-place : One (barPlace b)
-  pub stop-number : One (stopNumber k)
-  pub outcome-number : One (outcomeNumber o)
-  pub outcome-shown : One (outcomeShown o)
-  pub ending-number : One (endingNumber e)
-  pub ending-place : One (endingPlace e)
-  pub ending-shown : One (endingShown e)
-  pub loading-number : One (loadingNumber l)
-  pub loading-place : One (loadingPlace l)
+pub one-refusal-number : OneResult 0 refusal-number-kinds.ps refusal-number-kinds.r refusal-number.Post
+one-refusal-number κs a x y s t p q = p ∙ sym q
 
-pub one-answer : (f : Refusal) (x : Reckoned) (d : DeckFault) (b : Bar) (k : Stop) (o : Outcome) (e : Ending) (l : Loading) → OneAnswer f x d b k o e l
-one-answer f x d b k o e l =
-    record {
-      refusal-number = one (refusalNumber f);
-      reckoned-number = one (reckonedNumber x);
-      reckoned-word = one (reckonedWord x);
-      deck-number = one (deckNumber d);
-      deck-place = one (deckPlace d);
-      bar-number = one (barNumber b);
-      bar-place = one (barPlace b);
-      stop-number = one (stopNumber k);
-      outcome-number = one (outcomeNumber o);
-      outcome-shown = one (outcomeShown o);
-      ending-number = one (endingNumber e);
-      ending-place = one (endingPlace e);
-      ending-shown = one (endingShown e);
-      loading-number = one (loadingNumber l);
-      loading-place = one (loadingPlace l);
-    }
+pub one-reckoned-number : OneResult 0 reckoned-number-kinds.ps reckoned-number-kinds.r reckoned-number.Post
+one-reckoned-number κs a x y s t p q = p ∙ sym q
+
+pub one-reckoned-word : OneResult 0 reckoned-word-kinds.ps reckoned-word-kinds.r reckoned-word.Post
+one-reckoned-word κs a x y s t p q = p ∙ sym q
+
+pub one-deck-number : OneResult 0 deck-number-kinds.ps deck-number-kinds.r deck-number.Post
+one-deck-number κs a x y s t p q = p ∙ sym q
+
+pub one-deck-place : OneResult 0 deck-place-kinds.ps deck-place-kinds.r deck-place.Post
+one-deck-place κs a x y s t p q = p ∙ sym q
+
+pub one-bar-number : OneResult 0 bar-number-kinds.ps bar-number-kinds.r bar-number.Post
+one-bar-number κs a x y s t p q = p ∙ sym q
+
+pub one-bar-place : OneResult 0 bar-place-kinds.ps bar-place-kinds.r bar-place.Post
+one-bar-place κs a x y s t p q = p ∙ sym q
+
+pub one-stop-number : OneResult 0 stop-number-kinds.ps stop-number-kinds.r stop-number.Post
+one-stop-number κs a x y s t p q = p ∙ sym q
+
+pub one-outcome-number : OneResult 0 outcome-number-kinds.ps outcome-number-kinds.r outcome-number.Post
+one-outcome-number κs a x y s t p q = p ∙ sym q
+
+pub one-outcome-shown : OneResult 0 outcome-shown-kinds.ps outcome-shown-kinds.r outcome-shown.Post
+one-outcome-shown κs a x y s t p q = p ∙ sym q
+
+pub one-ending-number : OneResult 0 ending-number-kinds.ps ending-number-kinds.r ending-number.Post
+one-ending-number κs a x y s t p q = p ∙ sym q
+
+pub one-ending-place : OneResult 0 ending-place-kinds.ps ending-place-kinds.r ending-place.Post
+one-ending-place κs a x y s t p q = p ∙ sym q
+
+pub one-ending-shown : OneResult 0 ending-shown-kinds.ps ending-shown-kinds.r ending-shown.Post
+one-ending-shown κs a x y s t p q = p ∙ sym q
+
+pub one-loading-number : OneResult 0 loading-number-kinds.ps loading-number-kinds.r loading-number.Post
+one-loading-number κs a x y s t p q = p ∙ sym q
+
+pub one-loading-place : OneResult 0 loading-place-kinds.ps loading-place-kinds.r loading-place.Post
+one-loading-place κs a x y s t p q = p ∙ sym q
