@@ -30,7 +30,8 @@ returns c =
     let h₂ = put-more {e = 5} (digits 4 (a .number)) 4 h₁ (number .put-field .ensures) (length-digits 4 (a .number)) refl (omega (arith, start .pre)) in
     let h₃ = put-more {e = 8} (digits 3 (a .location)) 3 h₂ (location .put-field2 .ensures) (length-digits 3 (a .location)) refl (omega (arith, start .pre)) in
     let h₄ = put-part {e = 8 + 11 * n} (wordsBytes ws) (11 * n) h₃ (words .put-words .ensures) l refl (omega (arith, start .pre)) in
-    let h₅ = put-more {e = 11 + 11 * n} (digits 3 (a .problem)) 3 h₄ (problem .put-field3 .ensures) (length-digits 3 (a .problem)) (omega arith) (start .pre .1) in
+    let h₅ = put-more {e = 11 + 11 * n} (digits 3 (a .problem)) 3 h₄ (problem .put-field3 .ensures) (length-digits 3 (a .problem)) (omega arith)
+    (start .pre .1) in
     put-over h₅
 
 pub put-card-spec : {M : Type 1} → statement M
