@@ -1,12 +1,8 @@
 -- Each public function has one answer: two that its contract allows for the same arguments are equal, and so is all that they leave in
 -- what was lent. `Post` is the contract of a function, as it stands at the function. Assumes nothing.
-use Prim.Native.Nat.{ℕ}
 use mathlib.Core.Path.{_≡_, sym, _∙_}
-use mathlib.Core.List.{List}
-use contract.Lifetimes.{Lfts}
 use denote.Ref.{now}
-use denote.Triple.Clauses.{AtExit}
-use borrow.Fn.Kinds.{PK, RK, Out, Dens, resT, endedOf}
+use Rattle.rules.proofs.Agreed.{Agrees, OneResult}
 use Rattle.bytes.proofs.fields.put_field.Kinds as put-field-kinds
 use Rattle.bytes.proofs.fields.put_field.Reads as put-field
 use Rattle.bytes.proofs.fields.put_word.Kinds as put-word-kinds
@@ -28,15 +24,6 @@ use Rattle.bytes.proofs.reads.number_in.Reads as number-in
 use Rattle.bytes.proofs.reads.with_digit.Kinds as with-digit-kinds
 use Rattle.bytes.proofs.reads.with_digit.Reads as with-digit
 
--- of two calls with the same arguments that meet a contract, what holds of both results and of all that is left; n slices are lent
-abbrev pub Agrees : (n : ℕ) (ps : List (PK n)) (r : RK n) → Out n ps r
-    → ((κs : Lfts n) → resT r κs .Denot → resT r κs .Denot → AtExit (endedOf n ps r) κs → AtExit (endedOf n ps r) κs → Type 0)
-    → Type 0
-Agrees n ps r Post Same = (κs : Lfts n) (a : Dens κs ps) (x y : resT r κs .Denot) (s t : AtExit (endedOf n ps r) κs)
-    → Post κs a x s
-    → Post κs a y t
-    → Same κs x y s t
-
 pub one-byte-put : Agrees 1 put-byte-kinds.ps put-byte-kinds.r put-byte.Post (λ κs x y s t. now (s .0) ≡ now (t .0))
 one-byte-put κs a x y s t p q = p ∙ sym q
 
@@ -52,17 +39,17 @@ one-field-put κs a x y s t p q = p ∙ sym q
 pub one-word-put : Agrees 1 put-word-kinds.ps put-word-kinds.r put-word.Post (λ κs x y s t. now (s .0) ≡ now (t .0))
 one-word-put κs a x y s t p q = p ∙ sym q
 
-pub one-width : Agrees 0 width-of-kinds.ps width-of-kinds.r width-of.Post (λ κs x y s t. x ≡ y)
+pub one-width : OneResult 0 width-of-kinds.ps width-of-kinds.r width-of.Post
 one-width κs a x y s t p q = p .0 ∙ sym (q .0)
 
-pub one-byte : Agrees 1 byte-at-kinds.ps byte-at-kinds.r byte-at.Post (λ κs x y s t. x ≡ y)
+pub one-byte : OneResult 1 byte-at-kinds.ps byte-at-kinds.r byte-at.Post
 one-byte κs a x y s t p q = p ∙ sym q
 
-pub one-test : Agrees 0 is-digit-kinds.ps is-digit-kinds.r is-digit.Post (λ κs x y s t. x ≡ y)
+pub one-test : OneResult 0 is-digit-kinds.ps is-digit-kinds.r is-digit.Post
 one-test κs a x y s t p q = p ∙ sym q
 
-pub one-number : Agrees 1 number-in-kinds.ps number-in-kinds.r number-in.Post (λ κs x y s t. x ≡ y)
+pub one-number : OneResult 1 number-in-kinds.ps number-in-kinds.r number-in.Post
 one-number κs a x y s t p q = p .0 ∙ sym (q .0)
 
-pub one-longer : Agrees 0 with-digit-kinds.ps with-digit-kinds.r with-digit.Post (λ κs x y s t. x ≡ y)
+pub one-longer : OneResult 0 with-digit-kinds.ps with-digit-kinds.r with-digit.Post
 one-longer κs a x y s t p q = p ∙ sym q

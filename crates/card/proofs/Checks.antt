@@ -1,22 +1,18 @@
 -- The check of a deck, as a loop goes through its cards: what is left to check has the answer of the whole. Assumes nothing.
 use mathlib.Core.Path.{_≡_, refl, sym, ap, ap₂, _∙_}
-use mathlib.Core.List.{List, [], _∷_}
+use mathlib.Core.List.{List, _∷_}
 use mathlib.Core.Bool.{Bool, true, false}
 use Prim.Native.Nat.{ℕ, _+_, _-_, _≤_, _<_}
 use native.Mathlib.Nat.{pos-of-ne-zero}
 use native.Mathlib.Omega.{arith}
-use lib.Dec.{eqb}
 use lib.ListN.{length, getD, take, drop, length-drop}
 use lib.Seq.{take-all}
-use borrow.Author.Tests.{lt-ltb, le-ltb, eq-eqb}
-use Rattle.rules.specs.Words.{pick}
+use borrow.Author.Tests.{lt-ltb, le-ltb}
 use Rattle.rules.specs.Cards.{numberIn, badFrom, cellsFit, cardOf}
-use Rattle.rules.specs.Decks.{cardAt, cardSize, Piece, cardsFrom, met, checkedFrom, deckOf}
+use Rattle.rules.specs.Decks.{cardSize, Piece, cardsFrom, met, checkedFrom, deckOf}
 use Rattle.rules.specs.declared.Fault.{Fault}
 use Rattle.rules.specs.declared.Fault.the-variants.{UnknownKind, SecondFirst, CutShort, BadByte, BadPlace}
-use Rattle.rules.specs.declared.Card.{Card}
 use Rattle.rules.specs.declared.Card.the-variants.{Data, First, Bad}
-use Rattle.rules.specs.declared.DeckFault.{DeckFault}
 use Rattle.rules.specs.declared.DeckFault.the-variants.{TooLong, At, NoFirst}
 use Rattle.rules.specs.declared.Deck.{Deck}
 use Rattle.rules.specs.declared.Deck.the-variants.{Good, Faulty}
@@ -32,7 +28,7 @@ part deck at = take (length deck - at) (drop at deck)
 pub part-is : (deck : List ℕ) (at : ℕ) → part deck at ≡ drop at deck
 part-is deck at = take-all (length deck - at) (drop at deck) (omega (arith, length-drop at deck))
 
-pub length-part : (deck : List ℕ) (at : ℕ) → length (part deck at) ≡ length deck - at
+length-part : (deck : List ℕ) (at : ℕ) → length (part deck at) ≡ length deck - at
 length-part deck at = ap length (part-is deck at) ∙ length-drop at deck
 
 -- ---- the card met
@@ -127,7 +123,8 @@ pub record Long (deck : List ℕ) (at : ℕ) (sofar : Deck) (f : Form) : Type 0 
   pub known : f .size ≡ 0 → ⊥
   pub whole : f .size ≤ length (part deck at)
 
-module _ {deck : List ℕ} {at : ℕ} {sofar : Deck} {f : Form} (h : Long deck at sofar f) {b : ℕ} (e : b ≡ badFrom (f .words) (part deck at) 1 (f .size - 1)) where
+module _ {deck : List ℕ} {at : ℕ} {sofar : Deck} {f : Form} (h : Long deck at sofar f) {b : ℕ}
+    (e : b ≡ badFrom (f .words) (part deck at) 1 (f .size - 1)) where
   looked : Whole (part deck at) f b
   looked = record { begun = begun (h .met); known = h .known; whole = h .whole; looked = e }
 

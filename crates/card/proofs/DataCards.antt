@@ -1,12 +1,11 @@
 -- The data cards of a deck, as loops take them one by one: what is left has the answer of the whole. Assumes nothing.
-use mathlib.Core.Path.{_≡_, refl, sym, ap, _∙_}
+use mathlib.Core.Path.{_≡_, sym, ap, _∙_}
 use mathlib.Core.List.{List, [], _∷_}
 use mathlib.Core.Bool.{true, false}
 use Prim.Native.Nat.{ℕ, _+_, _-_, _≤_, _<_}
-use native.Mathlib.Omega.{arith}
 use lib.ListN.{length, drop}
 use borrow.Author.Tests.{eq-eqb, ne-eqb, lt-ltb, le-ltb, le-leb, lt-leb}
-use Rattle.rules.specs.Decks.{cardAt, DataCard, dataFrom, fitsBlock, judged, judgedFrom, beginsAt, mayStand}
+use Rattle.rules.specs.Decks.{cardAt, DataCard, dataFrom, judged, judgedFrom, beginsAt, mayStand}
 use Rattle.rules.specs.declared.Card.{Card}
 use Rattle.rules.specs.declared.Card.the-variants.{Data}
 use Rattle.rules.specs.declared.Judged.{Judged}
@@ -36,7 +35,9 @@ module _ {deck : List ℕ} {from b c at next : ℕ} (h : Judging deck from b c a
         sym (ap (λ (ks : List DataCard). judged ks at next c) (data-none deck at x t q) ∙ simp (le-ltb c next l)) ∙ h .same
 
     module _ {number location words problem size : ℕ} (q : cardAt deck at ≡ Data number location words problem size) where
-      first : (r : Judged) → _≡_ {A = Judged} (judged (record { place = at; location = location; words = words; size = size; rest = drop at deck } ∷ dataFrom deck (at + size)) at next c) r
+      first : (r : Judged)
+          → let k : DataCard = record { place = at; location = location; words = words; size = size; rest = drop at deck } in
+          judged (k ∷ dataFrom deck (at + size)) at next c ≡ r
           → r ≡ judgedFrom deck from b c
       first r e = sym (ap (λ (ks : List DataCard). judged ks at next c) (data-next deck at q) ∙ e) ∙ h .same
 

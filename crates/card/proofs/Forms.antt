@@ -40,7 +40,8 @@ of-kind k t = by-kind (isDataKind k) refl
     others false e h = absurd (h refl)
 
     by-kind : (s : Bool) → isDataKind k ≡ s → (pick s (dataForm (k - 48)) (pick (eqb k 84) firstForm noForm) .size ≡ 0 → ⊥)
-        → pick s (dataOf (k - 48) d) (pick (eqb k 84) (firstOf d) (Bad UnknownKind 0)) ≡ formed k (pick s (dataForm (k - 48)) (pick (eqb k 84) firstForm noForm)) d
+        → pick s (dataOf (k - 48) d) (pick (eqb k 84) (firstOf d) (Bad UnknownKind 0))
+        ≡ formed k (pick s (dataForm (k - 48)) (pick (eqb k 84) firstForm noForm)) d
     by-kind true e h =
         let l = leb-true k 53 (both-second (leb 49 k) (leb k 53) e) in
         simp (ne-eqb k 84 (λ z. omega arith))

@@ -1,11 +1,8 @@
 -- Each public function has one answer: two that its contract allows for the same arguments are equal, and so are the outputs they leave.
 -- `Post` is the contract of a function, as it stands at the function. Assumes nothing.
 use mathlib.Core.Path.{_≡_, sym, _∙_}
-use mathlib.Core.List.{List}
-use contract.Lifetimes.{Lfts}
 use denote.Ref.{now}
-use denote.Triple.Clauses.{AtExit}
-use borrow.Fn.Kinds.{PK, RK, Out, Dens, resT, endedOf}
+use Rattle.rules.proofs.Agreed.{Agrees, OneResult}
 use Rattle.card.proofs.cards.judge.Kinds as judge-kinds
 use Rattle.card.proofs.cards.judge.Reads as judge
 use Rattle.card.proofs.cards.may_stand.Kinds as may-stand-kinds
@@ -29,44 +26,35 @@ use Rattle.card.proofs.writing.write_stop.Reads as write-stop
 use Rattle.card.proofs.writing.write_trace.Kinds as write-trace-kinds
 use Rattle.card.proofs.writing.write_trace.Reads as write-trace
 
--- of two calls with the same arguments that meet a contract, what holds of both results and of all that is left
-abbrev pub Agrees : (ps : List (PK 1)) (r : RK 1) → Out 1 ps r
-    → ((κs : Lfts 1) → resT r κs .Denot → resT r κs .Denot → AtExit (endedOf 1 ps r) κs → AtExit (endedOf 1 ps r) κs → Type 0)
-    → Type 0
-Agrees ps r Post Same = (κs : Lfts 1) (a : Dens κs ps) (x y : resT r κs .Denot) (s t : AtExit (endedOf 1 ps r) κs)
-    → Post κs a x s
-    → Post κs a y t
-    → Same κs x y s t
-
-pub one-card : Agrees read-card-kinds.ps read-card-kinds.r read-card.Post (λ κs x y s t. x ≡ y)
+pub one-card : OneResult 1 read-card-kinds.ps read-card-kinds.r read-card.Post
 one-card κs a x y s t p q = p ∙ sym q
 
-pub one-card-at : Agrees card-at-kinds.ps card-at-kinds.r card-at.Post (λ κs x y s t. x ≡ y)
+pub one-card-at : OneResult 1 card-at-kinds.ps card-at-kinds.r card-at.Post
 one-card-at κs a x y s t p q = p ∙ sym q
 
-pub one-place : Agrees first-bad-kinds.ps first-bad-kinds.r first-bad.Post (λ κs x y s t. x ≡ y)
+pub one-place : OneResult 1 first-bad-kinds.ps first-bad-kinds.r first-bad.Post
 one-place κs a x y s t p q = p ∙ sym q
 
-pub one-word : Agrees word-of-kinds.ps word-of-kinds.r word-of.Post (λ κs x y s t. x ≡ y)
+pub one-word : OneResult 1 word-of-kinds.ps word-of-kinds.r word-of.Post
 one-word κs a x y s t p q = p ∙ sym q
 
-pub one-deck : Agrees check-deck-kinds.ps check-deck-kinds.r check-deck.Post (λ κs x y s t. x ≡ y)
+pub one-deck : OneResult 1 check-deck-kinds.ps check-deck-kinds.r check-deck.Post
 one-deck κs a x y s t p q = p ∙ sym q
 
-pub one-judgement : Agrees judge-kinds.ps judge-kinds.r judge.Post (λ κs x y s t. x ≡ y)
+pub one-judgement : OneResult 1 judge-kinds.ps judge-kinds.r judge.Post
 one-judgement κs a x y s t p q = p ∙ sym q
 
-pub one-stand : Agrees may-stand-kinds.ps may-stand-kinds.r may-stand.Post (λ κs x y s t. x ≡ y)
+pub one-stand : OneResult 1 may-stand-kinds.ps may-stand-kinds.r may-stand.Post
 one-stand κs a x y s t p q = p ∙ sym q
 
-pub one-data : Agrees write-data-kinds.ps write-data-kinds.r write-data.Post (λ κs x y s t. (x ≡ y) × (now (s .0) ≡ now (t .0)))
+pub one-data : Agrees 1 write-data-kinds.ps write-data-kinds.r write-data.Post (λ κs x y s t. (x ≡ y) × (now (s .0) ≡ now (t .0)))
 one-data κs a x y s t p q = (p .answer ∙ sym (q .answer), p .bytes ∙ sym (q .bytes))
 
-pub one-trace : Agrees write-trace-kinds.ps write-trace-kinds.r write-trace.Post (λ κs x y s t. (x ≡ y) × (now (s .0) ≡ now (t .0)))
+pub one-trace : Agrees 1 write-trace-kinds.ps write-trace-kinds.r write-trace.Post (λ κs x y s t. (x ≡ y) × (now (s .0) ≡ now (t .0)))
 one-trace κs a x y s t p q = (p .answer ∙ sym (q .answer), p .bytes ∙ sym (q .bytes))
 
-pub one-stop : Agrees write-stop-kinds.ps write-stop-kinds.r write-stop.Post (λ κs x y s t. (x ≡ y) × (now (s .0) ≡ now (t .0)))
+pub one-stop : Agrees 1 write-stop-kinds.ps write-stop-kinds.r write-stop.Post (λ κs x y s t. (x ≡ y) × (now (s .0) ≡ now (t .0)))
 one-stop κs a x y s t p q = (p .answer ∙ sym (q .answer), p .bytes ∙ sym (q .bytes))
 
-pub one-line : Agrees write-line-kinds.ps write-line-kinds.r write-line.Post (λ κs x y s t. (x ≡ y) × (now (s .0) ≡ now (t .0)))
+pub one-line : Agrees 1 write-line-kinds.ps write-line-kinds.r write-line.Post (λ κs x y s t. (x ≡ y) × (now (s .0) ≡ now (t .0)))
 one-line κs a x y s t p q = (p .answer ∙ sym (q .answer), p .bytes ∙ sym (q .bytes))

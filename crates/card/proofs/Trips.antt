@@ -24,11 +24,13 @@ written-is-read number location words n problem before after read l w e =
     let ws : List ℕ = take n words in
     let card : List ℕ = dataCard number location ws problem in
     let rest : List ℕ = drop (length card) before in
-    let m : May number location words n problem = may-is number location words n problem (both-first (dataMay number location words n problem) _ (sym (w .answer))) in
+    let m : May number location words n problem =
+    may-is number location words n problem (both-first (dataMay number location words n problem) _ (sym (w .answer))) in
     let t : length ws ≡ n = length-take-le n words (omega (arith, m .few)) in
     let q : after ≡ card ++ rest = w .bytes ∙ ap (λ (s : Bool). pick s (card ++ rest) before) (sym (w .answer)) in
     let r : DataRead (card ++ rest) number location (length ws) problem (11 + 11 * length ws) =
-    data-written-read number location ws problem rest (omega (arith, m .some)) (omega (arith, m .few)) (omega (arith, m .numbered)) (m .from) (omega (arith, m .upto)) (omega (arith, m .posed)) in (
+    data-written-read number location ws problem rest (omega (arith, m .some)) (omega (arith, m .few)) (omega (arith, m .numbered))
+    (m .from) (omega (arith, m .upto)) (omega (arith, m .posed)) in (
       e
           ∙ ap cardOf q
           ∙ data-is (card ++ rest) number location (length ws) problem (11 + 11 * length ws) r
@@ -57,5 +59,6 @@ read-is-written d number location n problem size words before after said l e s r
     let h : (said ≡ true) × (after ≡ over card before) =
     was-whole w (is-may number location words n problem m) (omega (arith, length-data number location ws problem, r .long)) in
     let q : card ≡ take size d =
-    data-read-written d number location problem size ws (subst (λ (k : ℕ). DataRead d number location k problem size) (sym t) r) (λ i h. same i (omega arith)) in
+    data-read-written d number location problem size ws
+    (subst (λ (k : ℕ). DataRead d number location k problem size) (sym t) r) (λ i h. same i (omega arith)) in
     (h .0, h .1 ∙ ap (λ (c : List ℕ). over c before) q)

@@ -24,7 +24,7 @@ words-tested [] e i l = absurd (let z : ⊥ = omega arith in z)
 words-tested (w ∷ ws) e zero l = leb-true w 19999999999 (both-first (isWord w) (allWords ws) e)
 words-tested (w ∷ ws) e (suc i) l = words-tested ws (both-second (isWord w) (allWords ws) e) i (le-of-suc-le-suc l)
 
-pub all-tested : (ws : List ℕ) → AllWords ws → allWords ws ≡ true
+all-tested : (ws : List ℕ) → AllWords ws → allWords ws ≡ true
 unfolding allWords
 all-tested [] h = refl
 all-tested (w ∷ ws) h = ap₂ both (le-leb w 19999999999 (h 0 (omega arith))) (all-tested ws (λ i l. h (suc i) (omega arith)))

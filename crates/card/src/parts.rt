@@ -36,7 +36,8 @@ pub(crate) fn put_card(
 )
     requires { ⌜ n ≤ length (now words) ⌝ }
     requires { ⌜ 11 + 11 * n ≤ length (now out) ⌝ }
-    ensures { λ _. ⌜ now (out .exit) ≡ over (kind ∷ digits 4 number ++ digits 3 location ++ wordsBytes (take n (now (words .entry))) ++ digits 3 problem) (now (out .entry)) ⌝ }
+    ensures { λ _. ⌜ now (out .exit) ≡ over (kind ∷ digits 4 number ++ digits 3 location ++ wordsBytes (take n (now (words .entry)))
+        ++ digits 3 problem) (now (out .entry)) ⌝ }
 {
     put_byte(out, 0, kind);
     put_field(out, 1, 4, number);

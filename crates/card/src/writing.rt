@@ -23,7 +23,8 @@ pub fn write_data(
     n: usize,
     problem: u64,
 ) -> bool
-    ensures { λ r. ⌜ Wrote (dataMay number location words n problem) (dataCard number location (take n words) problem) (now (out .entry)) r (now (out .exit)) ⌝ }
+    ensures { λ r. ⌜ Wrote (dataMay number location words n problem) (dataCard number location (take n words) problem)
+        (now (out .entry)) r (now (out .exit)) ⌝ }
 {
     if !data_may(number, location, &words, n, problem) {
         return false;

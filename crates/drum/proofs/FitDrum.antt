@@ -44,7 +44,8 @@ left-turn : (drum marks : List ℕ) (a : ℕ) → a < length drum → a < length
 unfolding left marksFit view wordsFit
 left-turn drum marks a k l =
     ap₂ (λ (d m : List ℕ). both (marksFit m) (wordsFit (view d m))) (drop-cons drum a 0 k) (drop-cons marks a 0 l)
-    ∙ swapped (leb (getD marks a 0) 1) (marksFit (drop (suc a) marks)) (wordFits (cellOf (getD marks a 0) (getD drum a 0))) (wordsFit (view (drop (suc a) drum) (drop (suc a) marks)))
+    ∙ swapped (leb (getD marks a 0) 1) (marksFit (drop (suc a) marks)) (wordFits (cellOf (getD marks a 0) (getD drum a 0)))
+    (wordsFit (view (drop (suc a) drum) (drop (suc a) marks)))
     ∙ ap (λ (n : ℕ). both (fits (getD marks a 0) (getD drum a 0)) (left drum marks n)) (sym (add-one a))
 
 abbrev whole : List ℕ → List ℕ → Bool
@@ -87,5 +88,6 @@ module _ {drum marks : List ℕ} {a : ℕ} (h : Checking drum marks a) where
   pub checking-end : 1000 ≤ a → true ≡ whole drum marks
   unfolding left marksFit view wordsFit
   checking-end l =
-      sym (ap₂ (λ (d m : List ℕ). both (marksFit m) (wordsFit (view d m))) (drop-of-length-le drum {i = a} (omega (arith, h .drum-long))) (drop-of-length-le marks {i = a} (omega (arith, h .marks-long))))
+      sym (ap₂ (λ (d m : List ℕ). both (marksFit m) (wordsFit (view d m))) (drop-of-length-le drum {i = a} (omega (arith, h .drum-long)))
+      (drop-of-length-le marks {i = a} (omega (arith, h .marks-long))))
       ∙ h .same

@@ -55,7 +55,10 @@ pub owned-within : (drum marks : List ℕ) (a : ℕ) → ownedAt (view drum mark
 owned-within drum marks a e = by-place (leb (length drum) a) refl
   where
     by-place : (t : Bool) → leb (length drum) a ≡ t → a < length drum
-    by-place true u = let z : _≡_ {A = Bool} false true = sym (unowned-past drum marks a (leb-true (length drum) a u)) ∙ e in let y : _≡_ {A = ℕ} 0 1 = cc in omega arith
+    by-place true u =
+        let z : _≡_ {A = Bool} false true = sym (unowned-past drum marks a (leb-true (length drum) a u)) ∙ e in
+        let y : _≡_ {A = ℕ} 0 1 = cc in
+        omega arith
     by-place false u = leb-false (length drum) a u
 
 -- a block that begins past the drum is all marked only where it is empty

@@ -1,12 +1,8 @@
 -- Each public function has one answer: two that its contract allows for the same arguments are equal, and so is all that they leave in
 -- what was lent. `Post` is the contract of a function, as it stands at the function. Assumes nothing.
-use Prim.Native.Nat.{ℕ}
 use mathlib.Core.Path.{_≡_, sym, _∙_}
-use mathlib.Core.List.{List}
-use contract.Lifetimes.{Lfts}
 use denote.Ref.{now}
-use denote.Triple.Clauses.{AtExit}
-use borrow.Fn.Kinds.{PK, RK, Out, Dens, resT, endedOf}
+use Rattle.rules.proofs.Agreed.{Agrees}
 use Rattle.file.proofs.reading.read_file.Kinds as read-file-kinds
 use Rattle.file.proofs.reading.read_file.Reads as read-file
 use Rattle.file.proofs.texts.read_cells.Kinds as read-cells-kinds
@@ -14,19 +10,11 @@ use Rattle.file.proofs.texts.read_cells.Reads as read-cells
 use Rattle.file.proofs.writing.write_file.Kinds as write-file-kinds
 use Rattle.file.proofs.writing.write_file.Reads as write-file
 
--- of two calls with the same arguments that meet a contract, what holds of both results and of all that is left; n slices are lent
-abbrev pub Agrees : (n : ℕ) (ps : List (PK n)) (r : RK n) → Out n ps r
-    → ((κs : Lfts n) → resT r κs .Denot → resT r κs .Denot → AtExit (endedOf n ps r) κs → AtExit (endedOf n ps r) κs → Type 0)
-    → Type 0
-Agrees n ps r Post Same = (κs : Lfts n) (a : Dens κs ps) (x y : resT r κs .Denot) (s t : AtExit (endedOf n ps r) κs)
-    → Post κs a x s
-    → Post κs a y t
-    → Same κs x y s t
-
 pub one-written : Agrees 3 write-file-kinds.ps write-file-kinds.r write-file.Post (λ κs x y s t. (x ≡ y) × (now (s .0) ≡ now (t .0)))
 one-written κs a x y s t p q = (p .answer ∙ sym (q .answer), p .bytes ∙ sym (q .bytes))
 
-pub one-found : Agrees 3 read-file-kinds.ps read-file-kinds.r read-file.Post (λ κs x y s t. (x ≡ y) × (now (s .0) ≡ now (t .0)) × (now (s .1 .0) ≡ now (t .1 .0)))
+pub one-found : Agrees 3 read-file-kinds.ps read-file-kinds.r read-file.Post
+    (λ κs x y s t. (x ≡ y) × (now (s .0) ≡ now (t .0)) × (now (s .1 .0) ≡ now (t .1 .0)))
 one-found κs a x y s t p q = (
   λ i. record { good = (p .good-is ∙ sym (q .good-is)) i; state = (p .state-is ∙ sym (q .state-is)) i },
   p .drum-is ∙ sym (q .drum-is),

@@ -10,10 +10,9 @@ mod Punches
 mod StoredCards
 mod CardsRead
 mod Loads
-mod OneLoad
+mod OneAnswer
 mod Modes
 mod Orders
 mod Tellings
 mod Steps
 mod Runs
-mod OneRun

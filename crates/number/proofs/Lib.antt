@@ -4,4 +4,3 @@ mod Guesses
 mod Aligning
 mod Sizes
 pub mod OneAnswer
-pub mod OneReckoned

@@ -1,58 +1,70 @@
--- Each exported function has one answer: its contract says what the answer equals, and two answers that equal a third are equal. Of a
--- load and of a run this holds of all that was lent, too. Assumes nothing.
-use Prim.Native.Nat.{ℕ}
+-- Each exported function has one answer: two that its contract allows for the same arguments are equal, and so is all that they leave in
+-- what was lent. `Post` is the contract of a function, as it stands at the function. Assumes nothing.
 use mathlib.Core.Path.{_≡_, sym, _∙_}
-use mathlib.Core.List.{List}
-use Rattle.rules.specs.Arithmetic.{addOf, subOf, mpyOf, divOf, ngmpyOf, sqrtOf, absOf}
-use Rattle.rules.specs.Decks.{deckOf}
-use Rattle.rules.specs.Loads.{LoadResult}
-use Rattle.rules.specs.Running.{RunResult}
-use Rattle.rules.proofs.Agreed.{One, one}
-use Rattle.panel.specs.Told.{wordTold, placeTold}
-use Rattle.panel.specs.Calls.{LoadTold, RunTold}
-use Rattle.panel.specs.declared.Place.{Place}
-use Rattle.panel.specs.declared.Ended.{Ended}
+use denote.Ref.{now}
+use Rattle.rules.proofs.Agreed.{Agrees, OneResult}
+use Rattle.panel.proofs.l1_add.Kinds as add-kinds
+use Rattle.panel.proofs.l1_add.Reads as add
+use Rattle.panel.proofs.l1_sub.Kinds as sub-kinds
+use Rattle.panel.proofs.l1_sub.Reads as sub
+use Rattle.panel.proofs.l1_mpy.Kinds as mpy-kinds
+use Rattle.panel.proofs.l1_mpy.Reads as mpy
+use Rattle.panel.proofs.l1_div.Kinds as div-kinds
+use Rattle.panel.proofs.l1_div.Reads as div
+use Rattle.panel.proofs.l1_ngmpy.Kinds as ngmpy-kinds
+use Rattle.panel.proofs.l1_ngmpy.Reads as ngmpy
+use Rattle.panel.proofs.l1_sqrt.Kinds as sqrt-kinds
+use Rattle.panel.proofs.l1_sqrt.Reads as sqrt
+use Rattle.panel.proofs.l1_abs.Kinds as abs-kinds
+use Rattle.panel.proofs.l1_abs.Reads as abs
+use Rattle.panel.proofs.l1_deck.Kinds as deck-kinds
+use Rattle.panel.proofs.l1_deck.Reads as deck
+use Rattle.panel.proofs.calls.l1_load.Kinds as load-kinds
+use Rattle.panel.proofs.calls.l1_load.Reads as load
+use Rattle.panel.proofs.calls.l1_run.Kinds as run-kinds
+use Rattle.panel.proofs.calls.l1_run.Reads as run
 
-pub record OneAnswer (a b : ℕ) (deck : List ℕ) : Type 0 where
-  pub l1-add : One (wordTold (addOf a b))
-  pub l1-sub : One (wordTold (subOf a b))
-  pub l1-mpy : One (wordTold (mpyOf a b))
-  pub l1-div : One (wordTold (divOf a b))
-  pub l1-ngmpy : One (wordTold (ngmpyOf a b))
-  pub l1-sqrt : One (wordTold (sqrtOf b))
-  pub l1-abs : One (wordTold (absOf b))
-  pub l1-deck : One (placeTold (deckOf deck))
+pub one-add : OneResult 0 add-kinds.ps add-kinds.r add.Post
+one-add κs a x y s t p q = p ∙ sym q
 
-pub one-answer : (a b : ℕ) (deck : List ℕ) → OneAnswer a b deck
-one-answer a b deck =
-    record {
-      l1-add = one (wordTold (addOf a b));
-      l1-sub = one (wordTold (subOf a b));
-      l1-mpy = one (wordTold (mpyOf a b));
-      l1-div = one (wordTold (divOf a b));
-      l1-ngmpy = one (wordTold (ngmpyOf a b));
-      l1-sqrt = one (wordTold (sqrtOf b));
-      l1-abs = one (wordTold (absOf b));
-      l1-deck = one (placeTold (deckOf deck));
-    }
+pub one-sub : OneResult 0 sub-kinds.ps sub-kinds.r sub.Post
+one-sub κs a x y s t p q = p ∙ sym q
 
-pub one-load : {row₀ : List ℕ} {x : LoadResult} {drum marks row drum′ marks′ row′ : List ℕ} {r r′ : Place}
-    → LoadTold row₀ x drum marks row r → LoadTold row₀ x drum′ marks′ row′ r′
-    → (r ≡ r′) × (drum ≡ drum′) × (marks ≡ marks′) × (row ≡ row′)
-one-load h k = (
-  h .told-is ∙ sym (k .told-is),
-  h .drum-is ∙ sym (k .drum-is),
-  h .marks-are ∙ sym (k .marks-are),
-  h .row-is ∙ sym (k .row-is),
+pub one-mpy : OneResult 0 mpy-kinds.ps mpy-kinds.r mpy.Post
+one-mpy κs a x y s t p q = p ∙ sym q
+
+pub one-div : OneResult 0 div-kinds.ps div-kinds.r div.Post
+one-div κs a x y s t p q = p ∙ sym q
+
+pub one-ngmpy : OneResult 0 ngmpy-kinds.ps ngmpy-kinds.r ngmpy.Post
+one-ngmpy κs a x y s t p q = p ∙ sym q
+
+pub one-sqrt : OneResult 0 sqrt-kinds.ps sqrt-kinds.r sqrt.Post
+one-sqrt κs a x y s t p q = p ∙ sym q
+
+pub one-abs : OneResult 0 abs-kinds.ps abs-kinds.r abs.Post
+one-abs κs a x y s t p q = p ∙ sym q
+
+pub one-deck : OneResult 1 deck-kinds.ps deck-kinds.r deck.Post
+one-deck κs a x y s t p q = p ∙ sym q
+
+pub one-load : Agrees 4 load-kinds.ps load-kinds.r load.Post
+    (λ κs x y s t. (x ≡ y) × (now (s .0) ≡ now (t .0)) × (now (s .1 .0) ≡ now (t .1 .0)) × (now (s .1 .1 .1 .0) ≡ now (t .1 .1 .1 .0)))
+one-load κs a x y s t p q = (
+  p .told-is ∙ sym (q .told-is),
+  p .drum-is ∙ sym (q .drum-is),
+  p .marks-are ∙ sym (q .marks-are),
+  p .row-is ∙ sym (q .row-is),
 )
 
-pub one-run : {row₀ : List ℕ} {x : RunResult} {drum marks out row drum′ marks′ out′ row′ : List ℕ} {r r′ : Ended}
-    → RunTold row₀ x drum marks out row r → RunTold row₀ x drum′ marks′ out′ row′ r′
-    → (r ≡ r′) × (drum ≡ drum′) × (marks ≡ marks′) × (out ≡ out′) × (row ≡ row′)
-one-run h k = (
-  h .told-is ∙ sym (k .told-is),
-  h .drum-is ∙ sym (k .drum-is),
-  h .marks-are ∙ sym (k .marks-are),
-  h .out-is ∙ sym (k .out-is),
-  h .row-is ∙ sym (k .row-is),
+-- drum, marks, output and state stand at the first, second, fourth and fifth place
+pub one-run : Agrees 5 run-kinds.ps run-kinds.r run.Post
+    (λ κs x y s t. (x ≡ y) × (now (s .0) ≡ now (t .0)) × (now (s .1 .0) ≡ now (t .1 .0)) × (now (s .1 .1 .1 .0) ≡ now (t .1 .1 .1 .0))
+    × (now (s .1 .1 .1 .1 .0) ≡ now (t .1 .1 .1 .1 .0)))
+one-run κs a x y s t p q = (
+  p .told-is ∙ sym (q .told-is),
+  p .drum-is ∙ sym (q .drum-is),
+  p .marks-are ∙ sym (q .marks-are),
+  p .out-is ∙ sym (q .out-is),
+  p .row-is ∙ sym (q .row-is),
 )

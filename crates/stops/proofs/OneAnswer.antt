@@ -1,11 +1,7 @@
--- Each public function has one answer: two that its contract allows for the same arguments are equal.
+-- Each public function has one answer: two that its contract allows for the same argument are equal.
 -- `Post` is the contract of a function, as it stands at the function. Assumes nothing.
-use Prim.Native.Nat.{ℕ}
-use mathlib.Core.Path.{_≡_, sym, _∙_}
-use mathlib.Core.List.{List}
-use contract.Lifetimes.{Lfts}
-use denote.Triple.Clauses.{AtExit}
-use borrow.Fn.Kinds.{PK, RK, Out, Dens, resT, endedOf}
+use mathlib.Core.Path.{sym, _∙_}
+use Rattle.rules.proofs.Agreed.{OneResult}
 use Rattle.stops.proofs.refusal_number.Kinds as refusal-number-kinds
 use Rattle.stops.proofs.refusal_number.Reads as refusal-number
 use Rattle.stops.proofs.reckoned_number.Kinds as reckoned-number-kinds
@@ -41,62 +37,53 @@ use Rattle.stops.proofs.loading_number.Reads as loading-number
 use Rattle.stops.proofs.loading_place.Kinds as loading-place-kinds
 use Rattle.stops.proofs.loading_place.Reads as loading-place
 
--- of two calls with the same arguments that meet a contract, what holds of both results and of all that is left; n slices are lent
-abbrev pub Agrees : (n : ℕ) (ps : List (PK n)) (r : RK n) → Out n ps r
-    → ((κs : Lfts n) → resT r κs .Denot → resT r κs .Denot → AtExit (endedOf n ps r) κs → AtExit (endedOf n ps r) κs → Type 0)
-    → Type 0
-Agrees n ps r Post Same = (κs : Lfts n) (a : Dens κs ps) (x y : resT r κs .Denot) (s t : AtExit (endedOf n ps r) κs)
-    → Post κs a x s
-    → Post κs a y t
-    → Same κs x y s t
-
-pub one-refusal-number : Agrees 0 refusal-number-kinds.ps refusal-number-kinds.r refusal-number.Post (λ κs x y s t. x ≡ y)
+pub one-refusal-number : OneResult 0 refusal-number-kinds.ps refusal-number-kinds.r refusal-number.Post
 one-refusal-number κs a x y s t p q = p ∙ sym q
 
-pub one-reckoned-number : Agrees 0 reckoned-number-kinds.ps reckoned-number-kinds.r reckoned-number.Post (λ κs x y s t. x ≡ y)
+pub one-reckoned-number : OneResult 0 reckoned-number-kinds.ps reckoned-number-kinds.r reckoned-number.Post
 one-reckoned-number κs a x y s t p q = p ∙ sym q
 
-pub one-reckoned-word : Agrees 0 reckoned-word-kinds.ps reckoned-word-kinds.r reckoned-word.Post (λ κs x y s t. x ≡ y)
+pub one-reckoned-word : OneResult 0 reckoned-word-kinds.ps reckoned-word-kinds.r reckoned-word.Post
 one-reckoned-word κs a x y s t p q = p ∙ sym q
 
-pub one-deck-number : Agrees 0 deck-number-kinds.ps deck-number-kinds.r deck-number.Post (λ κs x y s t. x ≡ y)
+pub one-deck-number : OneResult 0 deck-number-kinds.ps deck-number-kinds.r deck-number.Post
 one-deck-number κs a x y s t p q = p ∙ sym q
 
-pub one-deck-place : Agrees 0 deck-place-kinds.ps deck-place-kinds.r deck-place.Post (λ κs x y s t. x ≡ y)
+pub one-deck-place : OneResult 0 deck-place-kinds.ps deck-place-kinds.r deck-place.Post
 one-deck-place κs a x y s t p q = p ∙ sym q
 
-pub one-bar-number : Agrees 0 bar-number-kinds.ps bar-number-kinds.r bar-number.Post (λ κs x y s t. x ≡ y)
+pub one-bar-number : OneResult 0 bar-number-kinds.ps bar-number-kinds.r bar-number.Post
 one-bar-number κs a x y s t p q = p ∙ sym q
 
-pub one-bar-place : Agrees 0 bar-place-kinds.ps bar-place-kinds.r bar-place.Post (λ κs x y s t. x ≡ y)
+pub one-bar-place : OneResult 0 bar-place-kinds.ps bar-place-kinds.r bar-place.Post
 one-bar-place κs a x y s t p q = p ∙ sym q
 
-pub one-stop-number : Agrees 0 stop-number-kinds.ps stop-number-kinds.r stop-number.Post (λ κs x y s t. x ≡ y)
+pub one-stop-number : OneResult 0 stop-number-kinds.ps stop-number-kinds.r stop-number.Post
 one-stop-number κs a x y s t p q = p ∙ sym q
 
-pub one-outcome-number : Agrees 0 outcome-number-kinds.ps outcome-number-kinds.r outcome-number.Post (λ κs x y s t. x ≡ y)
+pub one-outcome-number : OneResult 0 outcome-number-kinds.ps outcome-number-kinds.r outcome-number.Post
 one-outcome-number κs a x y s t p q = p ∙ sym q
 
-pub one-outcome-shown : Agrees 0 outcome-shown-kinds.ps outcome-shown-kinds.r outcome-shown.Post (λ κs x y s t. x ≡ y)
+pub one-outcome-shown : OneResult 0 outcome-shown-kinds.ps outcome-shown-kinds.r outcome-shown.Post
 one-outcome-shown κs a x y s t p q = p ∙ sym q
 
-pub one-may-go-on : Agrees 0 may-go-on-kinds.ps may-go-on-kinds.r may-go-on.Post (λ κs x y s t. x ≡ y)
+pub one-may-go-on : OneResult 0 may-go-on-kinds.ps may-go-on-kinds.r may-go-on.Post
 one-may-go-on κs a x y s t p q = p ∙ sym q
 
-pub one-completed-by : Agrees 0 completed-by-kinds.ps completed-by-kinds.r completed-by.Post (λ κs x y s t. x ≡ y)
+pub one-completed-by : OneResult 0 completed-by-kinds.ps completed-by-kinds.r completed-by.Post
 one-completed-by κs a x y s t p q = p ∙ sym q
 
-pub one-ending-number : Agrees 0 ending-number-kinds.ps ending-number-kinds.r ending-number.Post (λ κs x y s t. x ≡ y)
+pub one-ending-number : OneResult 0 ending-number-kinds.ps ending-number-kinds.r ending-number.Post
 one-ending-number κs a x y s t p q = p ∙ sym q
 
-pub one-ending-place : Agrees 0 ending-place-kinds.ps ending-place-kinds.r ending-place.Post (λ κs x y s t. x ≡ y)
+pub one-ending-place : OneResult 0 ending-place-kinds.ps ending-place-kinds.r ending-place.Post
 one-ending-place κs a x y s t p q = p ∙ sym q
 
-pub one-ending-shown : Agrees 0 ending-shown-kinds.ps ending-shown-kinds.r ending-shown.Post (λ κs x y s t. x ≡ y)
+pub one-ending-shown : OneResult 0 ending-shown-kinds.ps ending-shown-kinds.r ending-shown.Post
 one-ending-shown κs a x y s t p q = p ∙ sym q
 
-pub one-loading-number : Agrees 0 loading-number-kinds.ps loading-number-kinds.r loading-number.Post (λ κs x y s t. x ≡ y)
+pub one-loading-number : OneResult 0 loading-number-kinds.ps loading-number-kinds.r loading-number.Post
 one-loading-number κs a x y s t p q = p ∙ sym q
 
-pub one-loading-place : Agrees 0 loading-place-kinds.ps loading-place-kinds.r loading-place.Post (λ κs x y s t. x ≡ y)
+pub one-loading-place : OneResult 0 loading-place-kinds.ps loading-place-kinds.r loading-place.Post
 one-loading-place κs a x y s t p q = p ∙ sym q

@@ -1,7 +1,5 @@
 -- `bytes::put_word` meets its contract: what fits is written, and else nothing. Assumes nothing.
-use mathlib.Core.Path.{refl, sym, _∙_}
-use Prim.Native.Nat.{_+_}
-use native.Mathlib.Omega.{arith}
+use mathlib.Core.Path.{sym, _∙_}
 use borrow.Author.Needs.{needs}
 use borrow.Author.Tests.{leb-true}
 use Rattle.rules.specs.Cards.{wordBytes}
@@ -10,17 +8,11 @@ use Rattle.bytes.proofs.Joins.{put-done, put-left}
 use Rattle.bytes.proofs.fields.put_word.Statement.{statement}
 use Rattle.bytes.proofs.fields.put_word.Tie as tie
 
-has-room-requires : tie.Need-has-room-requires
-has-room-requires c κs = search needs
-
 set-word-requires : tie.Need-set-word-requires
 set-word-requires c κs =
     let room : tie.After-has-room = search in
     let then : tie.Then1 = search in
     leb-true _ _ (sym (room .has-room .ensures) ∙ then .if1 .taken)
-
-same-length : tie.Need-same-length
-same-length c = search needs
 
 returns : tie.Need-returns
 returns c =
@@ -40,4 +32,4 @@ returns-2 c =
 
 pub put-word-spec : {M : Type 1} → statement M
 put-word-spec =
-    tie.close (tie.spec has-room-requires set-word-requires same-length returns returns-2)
+    tie.close (tie.spec (λ c κs. search needs) set-word-requires (λ c. search needs) returns returns-2)

@@ -47,40 +47,26 @@ loop-holds c =
     let q : a .n - a .n ≡ 0 = omega arith in
     (omega arith, rw q (none-passed (a .out .now) (a .x) (a .a + a .n)))
 
-sub-i : tie.Need-sub-i Inv-loop μ-loop
-sub-i c = omega arith
-
-cast-out : tie.Need-cast-out Inv-loop μ-loop
-cast-out c = omega arith
-
-add-out : tie.Need-add-out Inv-loop μ-loop
-add-out c = omega arith
-
-add-out-2 : tie.Need-add-out-2 Inv-loop μ-loop
-add-out-2 c = omega arith
-
-slice-write-out : tie.Need-slice-write-out Inv-loop μ-loop
-slice-write-out c = omega (arith, c .before .loop .inv .1 .same)
-
-loop-less : tie.Need-loop-less Inv-loop μ-loop
-loop-less c = omega arith
-
 loop-again : tie.Need-loop-again Inv-loop μ-loop
 loop-again c =
-    let a = c .before .before .args in
-    let l = c .before .loop in
+    let start : tie.Start Inv-loop μ-loop = search in
+    let here : tie.At-loop Inv-loop μ-loop = search in
+    let a = start .args in
+    let l = here .loop in
     let e : ℕ = a .a + (l .i - 1) in
     let q : a .n - (l .i - 1) ≡ suc (a .n - l .i) = omega arith in
     let r : a .a + l .i ≡ suc e = omega arith in
-    (omega arith, rw q (one-passed (a .out .now) (a .x) (a .n - l .i) e (l .out) (l .y) (rw r at (l .inv .1)) (omega arith)))
+    (omega arith, rw q (one-passed _ _ _ e _ _ (rw r at (l .inv .1)) (omega arith)))
 
 same-length : tie.Need-same-length Inv-loop μ-loop
-same-length c = c .before .loop .inv .1 .same
+same-length c = let here : tie.At-loop Inv-loop μ-loop = search in here .loop .inv .1 .same
 
 returns : tie.Need-returns Inv-loop μ-loop
 returns c =
-    let a = c .before .before .args in
-    let l = c .before .loop in
+    let start : tie.Start Inv-loop μ-loop = search in
+    let here : tie.At-loop Inv-loop μ-loop = search in
+    let a = start .args in
+    let l = here .loop in
     let q : a .n - l .i ≡ a .n = omega arith in
     let r : a .a + l .i ≡ a .a = omega arith in
     rw (q, r) at (l .inv .1 .bytes)
@@ -92,12 +78,12 @@ set-field-spec =
     Inv-loop
     μ-loop
     loop-holds
-    sub-i
-    cast-out
-    add-out
-    add-out-2
-    slice-write-out
-    loop-less
+    (λ c. omega arith)
+    (λ c. omega arith)
+    (λ c. omega arith)
+    (λ c. omega arith)
+    (λ c. omega arith)
+    (λ c. omega arith)
     loop-again
     same-length
     returns)

@@ -1,7 +1,7 @@
 -- `bytes::set_word` meets its contract: the sign stands right in front of the ten digits. Assumes nothing.
 use mathlib.Core.List.{List}
-use mathlib.Core.Path.{refl, sym, ap, ap₂, _∙_}
-use Prim.Native.Nat.{ℕ, suc, _+_}
+use mathlib.Core.Path.{ap, ap₂, _∙_}
+use Prim.Native.Nat.{ℕ}
 use native.Mathlib.Numerals.{add-one}
 use native.Mathlib.Omega.{arith}
 use borrow.Author.Needs.{needs}
@@ -12,21 +12,6 @@ use Rattle.bytes.specs.Put.{splice}
 use Rattle.bytes.proofs.Splices.{splice-before}
 use Rattle.bytes.proofs.fields.set_word.Statement.{statement}
 use Rattle.bytes.proofs.fields.set_word.Tie as tie
-
-add-set-field : tie.Need-add-set-field
-add-set-field c = search needs
-
-set-field-requires : tie.Need-set-field-requires
-set-field-requires c κs = search needs
-
-sign-of-requires : tie.Need-sign-of-requires
-sign-of-requires c κs = search needs
-
-slice-write-out : tie.Need-slice-write-out
-slice-write-out c = search needs
-
-same-length : tie.Need-same-length
-same-length c = search needs
 
 returns : tie.Need-returns
 unfolding wordBytes
@@ -44,9 +29,9 @@ pub set-word-spec : {M : Type 1} → statement M
 set-word-spec =
     tie.close
     (tie.spec
-    add-set-field
-    set-field-requires
-    sign-of-requires
-    slice-write-out
-    same-length
+    (λ c. search needs)
+    (λ c κs. search needs)
+    (λ c κs. search needs)
+    (λ c. search needs)
+    (λ c. search needs)
     returns)

@@ -50,17 +50,13 @@ abbrev μ-loop : tie.MeasureT-loop
 loop-holds : tie.Need-loop-holds Inv-loop μ-loop
 loop-holds c = record { from = omega arith; upto = omega arith; same = omega arith; small = omega arith }
 
-add-n : tie.Need-add-n Inv-loop μ-loop
-add-n c = omega arith
-
-loop-less : tie.Need-loop-less Inv-loop μ-loop
-loop-less c = omega arith
-
 loop-again : tie.Need-loop-again Inv-loop μ-loop
-loop-again c = counted _ _ _ (c .before .loop .inv) (omega arith)
+loop-again c = let here : tie.At-loop Inv-loop μ-loop = search in counted _ _ _ (here .loop .inv) (omega arith)
 
 returns : tie.Need-returns Inv-loop μ-loop
-returns c = (ended _ _ _ (c .before .loop .inv) (omega arith), c .before .loop .inv .upto)
+returns c =
+    let here : tie.At-loop Inv-loop μ-loop = search in
+    (ended _ _ _ (here .loop .inv) (omega arith), here .loop .inv .upto)
 
 pub width-of-spec : {M : Type 1} → statement M
-width-of-spec = tie.close (tie.spec Inv-loop μ-loop loop-holds add-n loop-less loop-again returns)
+width-of-spec = tie.close (tie.spec Inv-loop μ-loop loop-holds (λ c. omega arith) (λ c. omega arith) loop-again returns)

@@ -23,19 +23,7 @@ returns : tie.Need-returns
 returns c =
     let start : tie.Start = search in
     let a = start .args in
-    sym (ap (λ (l : List ℕ). putAt (a .a) (take (a .n) l) (a .out .now)) (drop-of-length-le (a .from .now) {i = a .b} (omega arith)) ∙ nothing (a .a) (a .n) (a .out .now))
-
-part-put-run-start : tie.Need-part-put-run-start
-part-put-run-start c = search needs
-
-part-put-run-end : tie.Need-part-put-run-end
-part-put-run-end c = search needs
-
-put-run-requires : tie.Need-put-run-requires
-put-run-requires c κs = search needs
-
-same-length : tie.Need-same-length
-same-length c = search needs
+    rw (drop-of-length-le (a .from .now) {i = a .b} (omega arith)) (sym (nothing (a .a) (a .n) (a .out .now)))
 
 returns-2 : tie.Need-returns-2
 returns-2 c =
@@ -43,24 +31,6 @@ returns-2 c =
     let put : tie.After-put-run = search in
     let a = start .args in
     put .put-run .ensures ∙ ap (λ (l : List ℕ). putAt (a .a) l (a .out .now)) (all-there (a .from .now) (a .b) (a .n) (omega arith))
-
-add-e : tie.Need-add-e
-add-e c = search needs
-
-sub-put-run : tie.Need-sub-put-run
-sub-put-run c = search needs
-
-part-put-run-start-2 : tie.Need-part-put-run-start-2
-part-put-run-start-2 c = search needs
-
-part-put-run-end-2 : tie.Need-part-put-run-end-2
-part-put-run-end-2 c = search needs
-
-put-run-requires-2 : tie.Need-put-run-requires-2
-put-run-requires-2 c κs = search needs
-
-same-length-2 : tie.Need-same-length-2
-same-length-2 c = search needs
 
 returns-3 : tie.Need-returns-3
 returns-3 c =
@@ -75,15 +45,15 @@ copy-spec =
     tie.close
     (tie.spec
     returns
-    part-put-run-start
-    part-put-run-end
-    put-run-requires
-    same-length
+    (λ c. search needs)
+    (λ c. search needs)
+    (λ c κs. search needs)
+    (λ c. search needs)
     returns-2
-    add-e
-    sub-put-run
-    part-put-run-start-2
-    part-put-run-end-2
-    put-run-requires-2
-    same-length-2
+    (λ c. search needs)
+    (λ c. search needs)
+    (λ c. search needs)
+    (λ c. search needs)
+    (λ c κs. search needs)
+    (λ c. search needs)
     returns-3)

@@ -10,12 +10,6 @@ use Rattle.bytes.proofs.Joins.{put-done, put-left}
 use Rattle.bytes.proofs.puts.put_byte.Statement.{statement}
 use Rattle.bytes.proofs.puts.put_byte.Tie as tie
 
-slice-write-out : tie.Need-slice-write-out
-slice-write-out c = search needs
-
-same-length : tie.Need-same-length
-same-length c = search needs
-
 returns : tie.Need-returns
 returns c =
     let start : tie.Start = search in
@@ -30,4 +24,4 @@ returns-2 c =
     put-left (a .a) (a .b ∷ []) (a .out .now) refl (lt-leb (a .a + 1) _ (omega arith))
 
 pub put-byte-spec : {M : Type 1} → statement M
-put-byte-spec = tie.close (tie.spec slice-write-out same-length returns returns-2)
+put-byte-spec = tie.close (tie.spec (λ c. search needs) (λ c. search needs) returns returns-2)

@@ -1,25 +1,16 @@
 -- `bytes::put_run` meets its contract: what fits is written, and else nothing. Assumes nothing.
 use mathlib.Core.Path.{refl, sym, _∙_}
-use Prim.Native.Nat.{_+_}
-use native.Mathlib.Omega.{arith}
 use borrow.Author.Needs.{needs}
 use borrow.Author.Tests.{leb-true}
-use lib.ListN.{length}
 use Rattle.bytes.proofs.Joins.{put-done, put-left}
 use Rattle.bytes.proofs.puts.put_run.Statement.{statement}
 use Rattle.bytes.proofs.puts.put_run.Tie as tie
-
-has-room-requires : tie.Need-has-room-requires
-has-room-requires c κs = search needs
 
 set-run-requires : tie.Need-set-run-requires
 set-run-requires c κs =
     let room : tie.After-has-room = search in
     let then : tie.Then1 = search in
     leb-true _ _ (sym (room .has-room .ensures) ∙ then .if1 .taken)
-
-same-length : tie.Need-same-length
-same-length c = search needs
 
 returns : tie.Need-returns
 returns c =
@@ -39,4 +30,4 @@ returns-2 c =
 
 pub put-run-spec : {M : Type 1} → statement M
 put-run-spec =
-    tie.close (tie.spec has-room-requires set-run-requires same-length returns returns-2)
+    tie.close (tie.spec (λ c κs. search needs) set-run-requires (λ c. search needs) returns returns-2)

@@ -2,7 +2,7 @@
 use mathlib.Core.Path.{_≡_, refl}
 use Prim.Native.Nat.{_-_, _≤_}
 use native.Mathlib.Omega.{arith}
-use lib.ListN.{length, getD, length-set}
+use lib.ListN.{length, length-set}
 use lib.Seq.{paste, paste-zero}
 use Rattle.bytes.proofs.Copies.{copy-more, copy-end}
 use Rattle.bytes.proofs.puts.set_run.Statement.{statement}
@@ -15,42 +15,23 @@ abbrev μ-loop : tie.MeasureT-loop
 μ-loop out₀ a run i₀ out i = length run - i
 
 loop-holds : tie.Need-loop-holds Inv-loop μ-loop
-loop-holds c =
-    let a = c .args in
-    (omega arith, refl, paste-zero (a .out .now) (a .a) (a .run .now))
-
-shared-slice-read-out : tie.Need-shared-slice-read-out Inv-loop μ-loop
-shared-slice-read-out c = omega arith
-
-add-out : tie.Need-add-out Inv-loop μ-loop
-add-out c = omega arith
-
-slice-write-out : tie.Need-slice-write-out Inv-loop μ-loop
-slice-write-out c = omega arith
-
-add-i : tie.Need-add-i Inv-loop μ-loop
-add-i c = omega arith
-
-loop-less : tie.Need-loop-less Inv-loop μ-loop
-loop-less c = omega arith
+loop-holds c = (omega arith, refl, paste-zero (c .args .out .now) (c .args .a) (c .args .run .now))
 
 loop-again : tie.Need-loop-again Inv-loop μ-loop
 loop-again c =
-    let a = c .before .before .before .args in
-    let l = c .before .before .loop in (
-      omega arith,
-      simp length-set (l .inv .1),
-      copy-more (a .out .now) (a .run .now) (a .a) (l .i) (l .inv .2) (getD (a .run .now) (l .i) 0) refl (omega arith) (omega arith),
-    )
+    let here : tie.At-loop Inv-loop μ-loop = search in
+    let l = here .loop in
+    (omega arith, simp length-set (l .inv .1), copy-more _ _ _ _ (l .inv .2) _ refl (omega arith) (omega arith))
 
 same-length : tie.Need-same-length Inv-loop μ-loop
-same-length c = c .before .loop .inv .1
+same-length c = let here : tie.At-loop Inv-loop μ-loop = search in here .loop .inv .1
 
 returns : tie.Need-returns Inv-loop μ-loop
 returns c =
-    let a = c .before .before .args in
-    copy-end (a .out .now) (a .run .now) (a .a) (c .before .loop .i) (c .before .loop .inv .2)
-    (let e : c .before .loop .i ≡ length (a .run .now) = omega arith in e)
+    let start : tie.Start Inv-loop μ-loop = search in
+    let here : tie.At-loop Inv-loop μ-loop = search in
+    let e : here .loop .i ≡ length (start .args .run .now) = omega arith in
+    copy-end _ _ _ _ (here .loop .inv .2) e
 
 pub set-run-spec : {M : Type 1} → statement M
 set-run-spec =
@@ -59,11 +40,11 @@ set-run-spec =
     Inv-loop
     μ-loop
     loop-holds
-    shared-slice-read-out
-    add-out
-    slice-write-out
-    add-i
-    loop-less
+    (λ c. omega arith)
+    (λ c. omega arith)
+    (λ c. omega arith)
+    (λ c. omega arith)
+    (λ c. omega arith)
     loop-again
     same-length
     returns)

@@ -13,18 +13,6 @@ returns c =
     let a = start .args in
     sym (List·getD-eq-default (a .d .now) 0 {n = a .a + a .i} (omega arith))
 
-sub-if2 : tie.Need-sub-if2
-sub-if2 c = search needs
-
-add-result : tie.Need-add-result
-add-result c = search needs
-
-shared-slice-read-result : tie.Need-shared-slice-read-result
-shared-slice-read-result c = search needs
-
-returns-2 : tie.Need-returns-2
-returns-2 c = search needs
-
 returns-3 : tie.Need-returns-3
 returns-3 c =
     let start : tie.Start = search in
@@ -33,4 +21,4 @@ returns-3 c =
 
 pub byte-behind-spec : {M : Type 1} → statement M
 byte-behind-spec =
-    tie.close (tie.spec returns sub-if2 add-result shared-slice-read-result returns-2 returns-3)
+    tie.close (tie.spec returns (λ c. search needs) (λ c. search needs) (λ c. search needs) (λ c. search needs) returns-3)

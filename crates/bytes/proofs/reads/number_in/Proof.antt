@@ -31,15 +31,9 @@ more d a i x e h = rw add-one (ap₂ (λ (u v : ℕ). 10 * u + v) e h)
 grows : (x y i : ℕ) → x + 23 ≤ 23 * 10 ^ i → y ≤ 207 → 10 * x + y + 23 ≤ 23 * 10 ^ (i + 1)
 grows x y i h k = rw (add-one, pow-suc) (omega arith)
 
-at-most-ten-requires : tie.Need-at-most-ten-requires Inv-loop μ-loop
-at-most-ten-requires c κs = search needs
-
 loop-holds : tie.Need-loop-holds Inv-loop μ-loop
 unfolding numberIn
 loop-holds c = (omega arith, refl, omega arith)
-
-byte-behind-requires : tie.Need-byte-behind-requires Inv-loop μ-loop
-byte-behind-requires c κs = tt
 
 mul-x : tie.Need-mul-x Inv-loop μ-loop
 mul-x c =
@@ -47,20 +41,11 @@ mul-x c =
     let z = small (l .loop .x) (l .loop .i) (l .loop .inv .2) (omega arith) in
     omega arith
 
-figure-requires : tie.Need-figure-requires Inv-loop μ-loop
-figure-requires c κs = tt
-
 add-x : tie.Need-add-x Inv-loop μ-loop
 add-x c =
     let l : tie.At-loop Inv-loop μ-loop = search in
     let z = small (l .loop .x) (l .loop .i) (l .loop .inv .2) (omega arith) in
     omega (arith, c .figure .ensures .1)
-
-add-i : tie.Need-add-i Inv-loop μ-loop
-add-i c = omega arith
-
-loop-less : tie.Need-loop-less Inv-loop μ-loop
-loop-less c = omega arith
 
 loop-again : tie.Need-loop-again Inv-loop μ-loop
 loop-again c =
@@ -87,13 +72,13 @@ number-in-spec =
     (tie.spec
     Inv-loop
     μ-loop
-    at-most-ten-requires
+    (λ c κs. search needs)
     loop-holds
-    byte-behind-requires
+    (λ c κs. search needs)
     mul-x
-    figure-requires
+    (λ c κs. search needs)
     add-x
-    add-i
-    loop-less
+    (λ c. omega arith)
+    (λ c. omega arith)
     loop-again
     returns)

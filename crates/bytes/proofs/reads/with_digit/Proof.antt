@@ -1,28 +1,18 @@
 -- `bytes::with_digit` meets its contract: its two tests are those of the definition. Assumes nothing.
-use mathlib.Core.Path.{_≡_, sym, ap, _∙_}
+use mathlib.Core.Path.{sym, ap, _∙_}
 use Prim.Native.Nat.{ℕ, _+_, _*_}
 use native.Mathlib.Omega.{arith}
 use borrow.Author.Needs.{needs}
 use borrow.Author.Tests.{not-true, not-false}
-use Rattle.bytes.specs.Longer.{withDigit}
 use Rattle.bytes.specs.declared.reads.Longer.the-variants.{Number}
 use Rattle.bytes.proofs.Digits.{no-digit, too-large, one-longer}
 use Rattle.bytes.proofs.reads.with_digit.Statement.{statement}
 use Rattle.bytes.proofs.reads.with_digit.Tie as tie
 
-is-digit-requires : tie.Need-is-digit-requires
-is-digit-requires c κs = search needs
-
 returns : tie.Need-returns
 returns c =
     let test : tie.After-is-digit = search in
     sym (no-digit _ _ (sym (test .is-digit .ensures) ∙ not-true _ (c .if1 .taken)))
-
-figure-requires : tie.Need-figure-requires
-figure-requires c κs = search needs
-
-sub-if2 : tie.Need-sub-if2
-sub-if2 c = search needs
 
 returns-2 : tie.Need-returns-2
 returns-2 c =
@@ -30,12 +20,6 @@ returns-2 c =
     let digit : tie.Else1 = search in
     let figure : tie.After-figure = search in
     sym (too-large _ _ (sym (test .is-digit .ensures) ∙ not-false _ (digit .if1 .left)) (omega (arith, figure .figure .ensures .0)))
-
-mul-t6 : tie.Need-mul-t6
-mul-t6 c = search needs
-
-add-t7 : tie.Need-add-t7
-add-t7 c = search needs
 
 returns-3 : tie.Need-returns-3
 returns-3 c =
@@ -49,4 +33,4 @@ returns-3 c =
 pub with-digit-spec : {M : Type 1} → statement M
 with-digit-spec =
     tie.close
-    (tie.spec is-digit-requires returns figure-requires sub-if2 returns-2 mul-t6 add-t7 returns-3)
+    (tie.spec (λ c κs. search needs) returns (λ c κs. search needs) (λ c. search needs) returns-2 (λ c. search needs) (λ c. search needs) returns-3)

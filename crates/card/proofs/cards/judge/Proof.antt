@@ -17,12 +17,6 @@ abbrev μ-loop : tie.MeasureT-loop
 loop-holds : tie.Need-loop-holds Inv-loop μ-loop
 loop-holds c = record { same = refl }
 
-card-at-requires : tie.Need-card-at-requires Inv-loop μ-loop
-card-at-requires c κs = search needs
-
-enum-known-location : tie.Need-enum-known-location Inv-loop μ-loop
-enum-known-location c = search needs
-
 returns : tie.Need-returns Inv-loop μ-loop
 returns c =
     let here : tie.At-loop Inv-loop μ-loop = search in
@@ -63,7 +57,8 @@ returns-3 c =
     let card : tie.After-card-at Inv-loop μ-loop = search in
     let x : tie.After-location Inv-loop μ-loop = search in
     let at : tie.Else1 Inv-loop μ-loop = search in
-    judging-past (here .loop .inv) (test .loop-test .taken) (sym (card .card-at .ensures) ∙ x .location .given .1) (at .if1 .left) (omega (arith, c .if2 .taken))
+    judging-past (here .loop .inv) (test .loop-test .taken) (sym (card .card-at .ensures) ∙ x .location .given .1) (at .if1 .left)
+    (omega (arith, c .if2 .taken))
 
 add-at : tie.Need-add-at Inv-loop μ-loop
 add-at c =
@@ -101,7 +96,8 @@ loop-again c =
     let card : tie.After-card-at Inv-loop μ-loop = search in
     let x : tie.After-location Inv-loop μ-loop = search in
     let at : tie.Else1 Inv-loop μ-loop = search in
-    judging-more (here .loop .inv) (test .loop-test .taken) (sym (card .card-at .ensures) ∙ x .location .given .1) (at .if1 .left) (omega (arith, c .if2 .left))
+    judging-more (here .loop .inv) (test .loop-test .taken) (sym (card .card-at .ensures) ∙ x .location .given .1) (at .if1 .left)
+    (omega (arith, c .if2 .left))
 
 returns-4 : tie.Need-returns-4 Inv-loop μ-loop
 returns-4 c =
@@ -115,8 +111,8 @@ judge-spec =
     Inv-loop
     μ-loop
     loop-holds
-    card-at-requires
-    enum-known-location
+    (λ c κs. search needs)
+    (λ c. search needs)
     returns
     returns-2
     add-if2

@@ -22,12 +22,6 @@ returns c =
 loop-holds : tie.Need-loop-holds Inv-loop μ-loop
 loop-holds c = record { inside = c .if1 .left; same = refl }
 
-card-at-requires : tie.Need-card-at-requires Inv-loop μ-loop
-card-at-requires c κs = search needs
-
-enum-known-size : tie.Need-enum-known-size Inv-loop μ-loop
-enum-known-size c = search needs
-
 returns-2 : tie.Need-returns-2 Inv-loop μ-loop
 returns-2 c =
     let here : tie.At-loop Inv-loop μ-loop = search in
@@ -73,8 +67,8 @@ may-stand-spec =
     μ-loop
     returns
     loop-holds
-    card-at-requires
-    enum-known-size
+    (λ c κs. search needs)
+    (λ c. search needs)
     returns-2
     returns-3
     add-at

@@ -1,14 +1,13 @@
 -- `card::check_deck` meets its contract. The loop over cards: what is left of the deck has the answer of the whole. The loop over the
 -- bytes of a card: what is left of the card has its first bad place. Assumes nothing.
-use mathlib.Core.Bool.{true, false}
-use mathlib.Core.Path.{_≡_, refl, sym, ap, _∙_}
-use Prim.Native.Nat.{ℕ, _-_, _+_}
-use native.Mathlib.Nat.{pos-of-ne-zero}
+use mathlib.Core.Path.{sym, _∙_}
+use Prim.Native.Nat.{_-_}
 use native.Mathlib.Omega.{arith}
 use borrow.Author.Needs.{needs}
 use borrow.Author.Tests.{not-true, not-false}
 use lib.ListN.{length}
-use Rattle.card.proofs.Checks.{length-part, Checking, check-long, check-begin, check-end, check-second, Met, check-unknown, check-cut, Long, check-byte, check-place, check-data, check-first}
+use Rattle.card.proofs.Checks.{Checking, check-long, check-begin, check-end, check-second, Met, check-unknown, check-cut}
+use Rattle.card.proofs.Checks.{Long, check-byte, check-place, check-data, check-first}
 use Rattle.card.proofs.Looks.{Looked, look-begin, look-more, look-bad, look-end}
 use Rattle.card.proofs.checking.check_deck.Statement.{statement}
 use Rattle.card.proofs.checking.check_deck.Tie as tie
@@ -40,7 +39,7 @@ met c =
       checking = here .cards .inv;
       here = omega (arith, some .if2 .left);
       form = form .form-of .ensures .known;
-      other = sym (c .before .is-second .ensures) ∙ c .if3 .left;
+      other = cc;
     }
 
 long : (c : tie.Else5 Inv-loop μ-loop Inv-cards μ-cards)
@@ -49,9 +48,8 @@ long : (c : tie.Else5 Inv-loop μ-loop Inv-cards μ-cards)
     let form : tie.After-form-of Inv-loop μ-loop Inv-cards μ-cards = search in
     Long (start .args .deck .now) (here .cards .at) (here .cards .sofar) (form .form-of .result)
 long c =
-    let other : tie.Else3 Inv-loop μ-loop Inv-cards μ-cards = search in
     let known : tie.Else4 Inv-loop μ-loop Inv-cards μ-cards = search in
-    record { met = met other; known = known .if4 .left; whole = c .if5 .left }
+    record { met = met search; known = known .if4 .left; whole = c .if5 .left }
 
 returns : tie.Need-returns Inv-loop μ-loop Inv-cards μ-cards
 returns c = check-long _ (c .if1 .taken)
@@ -59,41 +57,8 @@ returns c = check-long _ (c .if1 .taken)
 cards-holds : tie.Need-cards-holds Inv-loop μ-loop Inv-cards μ-cards
 cards-holds c = check-begin _ (c .if1 .left)
 
-sub-rest : tie.Need-sub-rest Inv-loop μ-loop Inv-cards μ-cards
-sub-rest c = search needs
-
-part-rest-start : tie.Need-part-rest-start Inv-loop μ-loop Inv-cards μ-cards
-part-rest-start c = search needs
-
-part-rest-end : tie.Need-part-rest-end Inv-loop μ-loop Inv-cards μ-cards
-part-rest-end c = search needs
-
-shared-slice-read-kind : tie.Need-shared-slice-read-kind Inv-loop μ-loop Inv-cards μ-cards
-shared-slice-read-kind c = search needs
-
-form-of-requires : tie.Need-form-of-requires Inv-loop μ-loop Inv-cards μ-cards
-form-of-requires c κs = search needs
-
-is-second-requires : tie.Need-is-second-requires Inv-loop μ-loop Inv-cards μ-cards
-is-second-requires c κs = search needs
-
 loop-holds : tie.Need-loop-holds Inv-loop μ-loop Inv-cards μ-cards
 loop-holds c = look-begin _ _ _
-
-shared-slice-read-b : tie.Need-shared-slice-read-b Inv-loop μ-loop Inv-cards μ-cards
-shared-slice-read-b c = search needs
-
-is-due-requires : tie.Need-is-due-requires Inv-loop μ-loop Inv-cards μ-cards
-is-due-requires c κs = search needs
-
-add-byte : tie.Need-add-byte Inv-loop μ-loop Inv-cards μ-cards
-add-byte c = search needs
-
-add-o : tie.Need-add-o Inv-loop μ-loop Inv-cards μ-cards
-add-o c = search needs
-
-loop-less : tie.Need-loop-less Inv-loop μ-loop Inv-cards μ-cards
-loop-less c = search needs
 
 loop-again : tie.Need-loop-again Inv-loop μ-loop Inv-cards μ-cards
 loop-again c =
@@ -102,47 +67,26 @@ loop-again c =
     let due : tie.After-is-due Inv-loop μ-loop Inv-cards μ-cards = search in
     look-more _ _ _ _ (turn .loop .inv) (inside .loop-test .taken) (sym (due .is-due .ensures) ∙ not-false _ (c .if6 .left))
 
-number-in-requires : tie.Need-number-in-requires Inv-loop μ-loop Inv-cards μ-cards
-number-in-requires c κs = search needs
-
-cells-fit-requires : tie.Need-cells-fit-requires Inv-loop μ-loop Inv-cards μ-cards
-cells-fit-requires c κs = search needs
-
-add-byte-2 : tie.Need-add-byte-2 Inv-loop μ-loop Inv-cards μ-cards
-add-byte-2 c = search needs
-
-add-at : tie.Need-add-at Inv-loop μ-loop Inv-cards μ-cards
-add-at c = search needs
-
-number-in-requires-2 : tie.Need-number-in-requires-2 Inv-loop μ-loop Inv-cards μ-cards
-number-in-requires-2 c κs = search needs
-
-cards-less : tie.Need-cards-less Inv-loop μ-loop Inv-cards μ-cards
-cards-less c = search needs
-
 cards-again : tie.Need-cards-again Inv-loop μ-loop Inv-cards μ-cards
 cards-again c =
-    let whole : tie.Else5 Inv-loop μ-loop Inv-cards μ-cards = search in
     let turn : tie.At-loop Inv-loop μ-loop Inv-cards μ-cards = search in
     let done : tie.After-loop Inv-loop μ-loop Inv-cards μ-cards = search in
     let number : tie.After-number-in Inv-loop μ-loop Inv-cards μ-cards = search in
     let fits : tie.After-cells-fit Inv-loop μ-loop Inv-cards μ-cards = search in
     let fit : tie.Else7 Inv-loop μ-loop Inv-cards μ-cards = search in
     let first : tie.Then8 Inv-loop μ-loop Inv-cards μ-cards = search in
-    check-first (long whole) (look-end _ _ _ _ (turn .loop .inv) (done .loop-test .left)) (done .loop-test .left) (number .number-in .ensures .0) (sym (fits .cells-fit .ensures) ∙ not-false _ (fit .if7 .left)) (first .if8 .taken) (c .number-in2 .ensures .0)
-
-cards-less-2 : tie.Need-cards-less-2 Inv-loop μ-loop Inv-cards μ-cards
-cards-less-2 c = search needs
+    check-first (long search) (look-end _ _ _ _ (turn .loop .inv) (done .loop-test .left)) (done .loop-test .left) (number .number-in .ensures .0)
+    (sym (fits .cells-fit .ensures) ∙ not-false _ (fit .if7 .left)) (first .if8 .taken) (c .number-in2 .ensures .0)
 
 cards-again-2 : tie.Need-cards-again-2 Inv-loop μ-loop Inv-cards μ-cards
 cards-again-2 c =
-    let whole : tie.Else5 Inv-loop μ-loop Inv-cards μ-cards = search in
     let turn : tie.At-loop Inv-loop μ-loop Inv-cards μ-cards = search in
     let done : tie.After-loop Inv-loop μ-loop Inv-cards μ-cards = search in
     let number : tie.After-number-in Inv-loop μ-loop Inv-cards μ-cards = search in
     let fits : tie.After-cells-fit Inv-loop μ-loop Inv-cards μ-cards = search in
     let fit : tie.Else7 Inv-loop μ-loop Inv-cards μ-cards = search in
-    check-data (long whole) (look-end _ _ _ _ (turn .loop .inv) (done .loop-test .left)) (done .loop-test .left) (number .number-in .ensures .0) (sym (fits .cells-fit .ensures) ∙ not-false _ (fit .if7 .left)) (c .if8 .left)
+    check-data (long search) (look-end _ _ _ _ (turn .loop .inv) (done .loop-test .left)) (done .loop-test .left) (number .number-in .ensures .0)
+    (sym (fits .cells-fit .ensures) ∙ not-false _ (fit .if7 .left)) (c .if8 .left)
 
 returns-2 : tie.Need-returns-2 Inv-loop μ-loop Inv-cards μ-cards
 returns-2 c =
@@ -158,31 +102,29 @@ returns-3 c =
 
 returns-4 : tie.Need-returns-4 Inv-loop μ-loop Inv-cards μ-cards
 returns-4 c =
-    let other : tie.Else3 Inv-loop μ-loop Inv-cards μ-cards = search in
-    check-unknown (met other) (c .if4 .taken)
+    check-unknown (met search) (c .if4 .taken)
 
 returns-5 : tie.Need-returns-5 Inv-loop μ-loop Inv-cards μ-cards
 returns-5 c =
-    let other : tie.Else3 Inv-loop μ-loop Inv-cards μ-cards = search in
     let known : tie.Else4 Inv-loop μ-loop Inv-cards μ-cards = search in
-    check-cut (met other) (known .if4 .left) (c .if5 .taken)
+    check-cut (met search) (known .if4 .left) (c .if5 .taken)
 
 returns-6 : tie.Need-returns-6 Inv-loop μ-loop Inv-cards μ-cards
 returns-6 c =
-    let whole : tie.Else5 Inv-loop μ-loop Inv-cards μ-cards = search in
     let turn : tie.At-loop Inv-loop μ-loop Inv-cards μ-cards = search in
     let inside : tie.In-loop Inv-loop μ-loop Inv-cards μ-cards = search in
     let due : tie.After-is-due Inv-loop μ-loop Inv-cards μ-cards = search in
-    check-byte (long whole) (look-bad _ _ _ _ (turn .loop .inv) (inside .loop-test .taken) (sym (due .is-due .ensures) ∙ not-true _ (c .if6 .taken))) (inside .loop-test .taken)
+    check-byte (long search) (look-bad _ _ _ _ (turn .loop .inv) (inside .loop-test .taken) (sym (due .is-due .ensures) ∙ not-true _ (c .if6 .taken)))
+    (inside .loop-test .taken)
 
 returns-7 : tie.Need-returns-7 Inv-loop μ-loop Inv-cards μ-cards
 returns-7 c =
-    let whole : tie.Else5 Inv-loop μ-loop Inv-cards μ-cards = search in
     let turn : tie.At-loop Inv-loop μ-loop Inv-cards μ-cards = search in
     let done : tie.After-loop Inv-loop μ-loop Inv-cards μ-cards = search in
     let number : tie.After-number-in Inv-loop μ-loop Inv-cards μ-cards = search in
     let fits : tie.After-cells-fit Inv-loop μ-loop Inv-cards μ-cards = search in
-    check-place (long whole) (look-end _ _ _ _ (turn .loop .inv) (done .loop-test .left)) (done .loop-test .left) (number .number-in .ensures .0) (sym (fits .cells-fit .ensures) ∙ not-true _ (c .if7 .taken))
+    check-place (long search) (look-end _ _ _ _ (turn .loop .inv) (done .loop-test .left)) (done .loop-test .left) (number .number-in .ensures .0)
+    (sym (fits .cells-fit .ensures) ∙ not-true _ (c .if7 .taken))
 
 pub check-deck-spec : {M : Type 1} → statement M
 check-deck-spec =
@@ -194,27 +136,27 @@ check-deck-spec =
     μ-cards
     returns
     cards-holds
-    sub-rest
-    part-rest-start
-    part-rest-end
-    shared-slice-read-kind
-    form-of-requires
-    is-second-requires
+    (λ c. search needs)
+    (λ c. search needs)
+    (λ c. search needs)
+    (λ c. search needs)
+    (λ c κs. search needs)
+    (λ c κs. search needs)
     loop-holds
-    shared-slice-read-b
-    is-due-requires
-    add-byte
-    add-o
-    loop-less
+    (λ c. search needs)
+    (λ c κs. search needs)
+    (λ c. search needs)
+    (λ c. search needs)
+    (λ c. search needs)
     loop-again
-    number-in-requires
-    cells-fit-requires
-    add-byte-2
-    add-at
-    number-in-requires-2
-    cards-less
+    (λ c κs. search needs)
+    (λ c κs. search needs)
+    (λ c. search needs)
+    (λ c. search needs)
+    (λ c κs. search needs)
+    (λ c. search needs)
     cards-again
-    cards-less-2
+    (λ c. search needs)
     cards-again-2
     returns-2
     returns-3

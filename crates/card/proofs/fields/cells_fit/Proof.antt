@@ -11,14 +11,12 @@ returns c = simp (lt-leb 1 _ (c .if1 .taken))
 
 returns-2 : tie.Need-returns-2
 returns-2 c =
-    let a = c .before .before .args in
-    simp (le-leb 1 _ (c .before .if1 .left), lt-leb (a .location + a .n) 1000 (omega arith))
-
-add-result : tie.Need-add-result
-add-result c = search needs
+    let start : tie.Start = search in
+    let a = start .args in
+    simp (le-leb 1 (a .location) (omega arith), lt-leb (a .location + a .n) 1000 (omega arith))
 
 returns-3 : tie.Need-returns-3
-returns-3 c = simp (le-leb 1 _ (c .before .if1 .left))
+returns-3 c = let from : tie.Else1 = search in simp (le-leb 1 _ (from .if1 .left))
 
 pub cells-fit-spec : {M : Type 1} → statement M
-cells-fit-spec = tie.close (tie.spec returns returns-2 add-result returns-3)
+cells-fit-spec = tie.close (tie.spec returns returns-2 (λ c. search needs) returns-3)

@@ -10,13 +10,15 @@ returns c = simp (lt-leb 8 _ (c .if1 .taken))
 
 returns-2 : tie.Need-returns-2
 returns-2 c =
-    let a = c .before .before .args in
-    simp (le-leb 8 _ (c .before .if1 .left), le-ltb (a .o) (8 + 11 * a .n) (omega arith))
+    let start : tie.Start = search in
+    let a = start .args in
+    simp (le-leb 8 (a .o) (omega arith), le-ltb (a .o) (8 + 11 * a .n) (omega arith))
 
 returns-3 : tie.Need-returns-3
 returns-3 c =
-    let a = c .before .before .args in
-    simp (le-leb 8 _ (c .before .if1 .left), lt-ltb (a .o) (8 + 11 * a .n) (omega arith))
+    let start : tie.Start = search in
+    let a = start .args in
+    simp (le-leb 8 (a .o) (omega arith), lt-ltb (a .o) (8 + 11 * a .n) (omega arith))
 
 pub sign-due-spec : {M : Type 1} → statement M
 sign-due-spec = tie.close (tie.spec returns returns-2 returns-3)

@@ -13,30 +13,6 @@ use Rattle.bytes.proofs.Joins.{put-begin, put-part, put-more, put-over}
 use Rattle.card.proofs.parts.put_card.Statement.{statement}
 use Rattle.card.proofs.parts.put_card.Tie as tie
 
-put-byte-requires : tie.Need-put-byte-requires
-put-byte-requires c κs = search needs
-
-put-field-requires : tie.Need-put-field-requires
-put-field-requires c κs = search needs
-
-put-field-requires-2 : tie.Need-put-field-requires-2
-put-field-requires-2 c κs = search needs
-
-put-words-requires : tie.Need-put-words-requires
-put-words-requires c κs = search needs
-
-mul-put-field : tie.Need-mul-put-field
-mul-put-field c = search needs
-
-add-put-field : tie.Need-add-put-field
-add-put-field c = search needs
-
-put-field-requires-3 : tie.Need-put-field-requires-3
-put-field-requires-3 c κs = search needs
-
-same-length : tie.Need-same-length
-same-length c = search needs
-
 returns : tie.Need-returns
 returns c =
     let problem : tie.After-put-field3 = search in
@@ -54,18 +30,20 @@ returns c =
     let h₂ = put-more {e = 5} (digits 4 (a .number)) 4 h₁ (number .put-field .ensures) (length-digits 4 (a .number)) refl (omega (arith, start .pre)) in
     let h₃ = put-more {e = 8} (digits 3 (a .location)) 3 h₂ (location .put-field2 .ensures) (length-digits 3 (a .location)) refl (omega (arith, start .pre)) in
     let h₄ = put-part {e = 8 + 11 * n} (wordsBytes ws) (11 * n) h₃ (words .put-words .ensures) l refl (omega (arith, start .pre)) in
-    put-over (put-more {e = 11 + 11 * n} (digits 3 (a .problem)) 3 h₄ (problem .put-field3 .ensures) (length-digits 3 (a .problem)) (omega arith) (start .pre .1))
+    let h₅ = put-more {e = 11 + 11 * n} (digits 3 (a .problem)) 3 h₄ (problem .put-field3 .ensures) (length-digits 3 (a .problem)) (omega arith)
+    (start .pre .1) in
+    put-over h₅
 
 pub put-card-spec : {M : Type 1} → statement M
 put-card-spec =
     tie.close
     (tie.spec
-    put-byte-requires
-    put-field-requires
-    put-field-requires-2
-    put-words-requires
-    mul-put-field
-    add-put-field
-    put-field-requires-3
-    same-length
+    (λ c κs. search needs)
+    (λ c κs. search needs)
+    (λ c κs. search needs)
+    (λ c κs. search needs)
+    (λ c. search needs)
+    (λ c. search needs)
+    (λ c κs. search needs)
+    (λ c. search needs)
     returns)

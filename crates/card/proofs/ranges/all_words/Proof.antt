@@ -1,5 +1,4 @@
 -- `card::all_words` meets its contract: at each number what is left to look at has the answer of the whole. Assumes nothing.
-use mathlib.Core.Bool.{Bool}
 use mathlib.Core.List.{List}
 use mathlib.Core.Path.{_≡_, sym, ap, _∙_}
 use Prim.Native.Nat.{ℕ, suc, _+_, _-_, _≤_, _<_}
@@ -37,44 +36,33 @@ loop-holds c =
     (omega arith, ap (λ (k : ℕ). allWords (take k (a .words .now))) (sub-zero (a .n)))
 
 mul-w : tie.Need-mul-w Inv-loop μ-loop
-mul-w c = omega (arith, c .before .before .good)
-
-shared-slice-read-w : tie.Need-shared-slice-read-w Inv-loop μ-loop
-shared-slice-read-w c = omega arith
+mul-w c = let start : tie.Start Inv-loop μ-loop = search in omega (arith, start .good)
 
 returns : tie.Need-returns Inv-loop μ-loop
 returns c =
-    let a = c .before .before .before .before .args in
-    let l = c .before .before .before .loop in
-    let ws = a .words .now in
-    sym (ap (λ (t : Bool). both t (allWords (take (a .n - (l .i + 1)) (drop (l .i + 1) ws)))) (lt-leb (getD ws (l .i) 0) 19999999999 (c .if1 .taken)))
-    ∙ sym (next ws (a .n) (l .i) (omega arith) (omega arith))
-    ∙ l .inv .1
-
-add-i : tie.Need-add-i Inv-loop μ-loop
-add-i c = omega arith
-
-loop-less : tie.Need-loop-less Inv-loop μ-loop
-loop-less c = omega arith
+    let start : tie.Start Inv-loop μ-loop = search in
+    let here : tie.At-loop Inv-loop μ-loop = search in
+    let ws = start .args .words .now in
+    let l = here .loop in
+    rw (← (l .inv .1), next ws (start .args .n) (l .i) (omega arith) (omega arith), lt-leb (getD ws (l .i) 0) 19999999999 (c .if1 .taken))
 
 loop-again : tie.Need-loop-again Inv-loop μ-loop
 loop-again c =
-    let a = c .before .before .before .before .args in
-    let l = c .before .before .before .loop in
-    let ws = a .words .now in (
+    let start : tie.Start Inv-loop μ-loop = search in
+    let here : tie.At-loop Inv-loop μ-loop = search in
+    let ws = start .args .words .now in
+    let l = here .loop in (
       omega arith,
-      sym (ap (λ (t : Bool). both t (allWords (take (a .n - (l .i + 1)) (drop (l .i + 1) ws)))) (le-leb (getD ws (l .i) 0) 19999999999 (c .if1 .left)))
-          ∙ sym (next ws (a .n) (l .i) (omega arith) (omega arith))
-          ∙ l .inv .1,
+      rw (← (l .inv .1), next ws (start .args .n) (l .i) (omega arith) (omega arith), le-leb (getD ws (l .i) 0) 19999999999 (c .if1 .left)),
     )
 
 returns-2 : tie.Need-returns-2 Inv-loop μ-loop
 unfolding allWords
 returns-2 c =
-    let a = c .before .before .args in
-    let l = c .before .loop in
-    let z : a .n - l .i ≡ 0 = omega arith in
-    sym (ap (λ (k : ℕ). allWords (take k (drop (l .i) (a .words .now)))) z) ∙ l .inv .1
+    let start : tie.Start Inv-loop μ-loop = search in
+    let here : tie.At-loop Inv-loop μ-loop = search in
+    let z : start .args .n - here .loop .i ≡ 0 = omega arith in
+    rw (← (here .loop .inv .1), z)
 
 pub all-words-spec : {M : Type 1} → statement M
 all-words-spec =
@@ -84,9 +72,9 @@ all-words-spec =
     μ-loop
     loop-holds
     mul-w
-    shared-slice-read-w
+    (λ c. omega arith)
     returns
-    add-i
-    loop-less
+    (λ c. omega arith)
+    (λ c. omega arith)
     loop-again
     returns-2)

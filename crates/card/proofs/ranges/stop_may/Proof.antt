@@ -7,13 +7,19 @@ returns : tie.Need-returns
 returns c = simp (lt-leb _ 99 (c .if1 .taken))
 
 returns-2 : tie.Need-returns-2
-returns-2 c = simp (le-leb _ 99 (c .before .if1 .left), lt-leb _ 9999 (c .if2 .taken))
+returns-2 c = let number : tie.Else1 = search in simp (le-leb _ 99 (number .if1 .left), lt-leb _ 9999 (c .if2 .taken))
 
 returns-3 : tie.Need-returns-3
-returns-3 c = simp (le-leb _ 99 (c .before .before .if1 .left), le-leb _ 9999 (c .before .if2 .left), lt-leb _ 999999 (c .if3 .taken))
+returns-3 c =
+    let number : tie.Else1 = search in
+    let place : tie.Else2 = search in
+    simp (le-leb _ 99 (number .if1 .left), le-leb _ 9999 (place .if2 .left), lt-leb _ 999999 (c .if3 .taken))
 
 returns-4 : tie.Need-returns-4
-returns-4 c = simp (le-leb _ 99 (c .before .before .if1 .left), le-leb _ 9999 (c .before .if2 .left), le-leb _ 999999 (c .if3 .left))
+returns-4 c =
+    let number : tie.Else1 = search in
+    let place : tie.Else2 = search in
+    simp (le-leb _ 99 (number .if1 .left), le-leb _ 9999 (place .if2 .left), le-leb _ 999999 (c .if3 .left))
 
 pub stop-may-spec : {M : Type 1} → statement M
 stop-may-spec = tie.close (tie.spec returns returns-2 returns-3 returns-4)

@@ -14,18 +14,6 @@ returns c =
     let start : tie.Start = search in
     sym (ap cardOf (drop-of-length-le (start .args .deck .now) {i = start .args .at} (omega arith)))
 
-sub-read-card : tie.Need-sub-read-card
-sub-read-card c = search needs
-
-part-read-card-start : tie.Need-part-read-card-start
-part-read-card-start c = search needs
-
-part-read-card-end : tie.Need-part-read-card-end
-part-read-card-end c = search needs
-
-read-card-requires : tie.Need-read-card-requires
-read-card-requires c κs = search needs
-
 returns-2 : tie.Need-returns-2
 returns-2 c =
     let start : tie.Start = search in
@@ -36,8 +24,8 @@ card-at-spec =
     tie.close
     (tie.spec
     returns
-    sub-read-card
-    part-read-card-start
-    part-read-card-end
-    read-card-requires
+    (λ c. search needs)
+    (λ c. search needs)
+    (λ c. search needs)
+    (λ c κs. search needs)
     returns-2)

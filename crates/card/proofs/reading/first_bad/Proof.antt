@@ -1,9 +1,8 @@
 -- `card::first_bad` meets its contract: at each place what is left to look at has the answer of the whole. Assumes nothing.
-use mathlib.Core.Path.{sym, ap, _∙_}
+use borrow.Author.Needs.{needs}
 use Prim.Native.Nat.{_-_}
 use native.Mathlib.Omega.{arith}
 use borrow.Author.Tests.{not-true, not-false}
-use Rattle.rules.specs.Cards.{isDue}
 use Rattle.card.proofs.Looks.{Looked, look-begin, look-more, look-bad, look-end}
 use Rattle.card.proofs.reading.first_bad.Statement.{statement}
 use Rattle.card.proofs.reading.first_bad.Tie as tie
@@ -16,38 +15,24 @@ abbrev μ-loop : tie.MeasureT-loop
 
 loop-holds : tie.Need-loop-holds Inv-loop μ-loop
 loop-holds c =
-    let a = c .before .args in
-    look-begin (a .n) (a .rest .now) (a .size)
-
-byte-at-requires : tie.Need-byte-at-requires Inv-loop μ-loop
-byte-at-requires c κs = tt
-
-is-due-requires : tie.Need-is-due-requires Inv-loop μ-loop
-is-due-requires c κs = tt
+    look-begin _ _ _
 
 returns : tie.Need-returns Inv-loop μ-loop
 returns c =
-    let l = c .before .before .before .before in
-    let a = l .before .before .args in
-    look-bad (a .n) (a .rest .now) (a .size) (l .loop .o) (l .loop .inv) (omega arith) (sym (c .before .is-due .ensures ∙ ap (isDue (a .n) (l .loop .o)) (c .before .before .byte-at .ensures)) ∙ not-true _ (c .if1 .taken))
-
-add-o : tie.Need-add-o Inv-loop μ-loop
-add-o c = omega arith
-
-loop-less : tie.Need-loop-less Inv-loop μ-loop
-loop-less c = omega arith
+    let here : tie.At-loop Inv-loop μ-loop = search in
+    let due : tie.After-is-due Inv-loop μ-loop = search in
+    look-bad _ _ _ _ (here .loop .inv) (omega arith) (cc (not-true (due .is-due .result) (c .if1 .taken)))
 
 loop-again : tie.Need-loop-again Inv-loop μ-loop
 loop-again c =
-    let l = c .before .before .before .before in
-    let a = l .before .before .args in
-    look-more (a .n) (a .rest .now) (a .size) (l .loop .o) (l .loop .inv) (omega arith) (sym (c .before .is-due .ensures ∙ ap (isDue (a .n) (l .loop .o)) (c .before .before .byte-at .ensures)) ∙ not-false _ (c .if1 .left))
+    let here : tie.At-loop Inv-loop μ-loop = search in
+    let due : tie.After-is-due Inv-loop μ-loop = search in
+    look-more _ _ _ _ (here .loop .inv) (omega arith) (cc (not-false (due .is-due .result) (c .if1 .left)))
 
 returns-2 : tie.Need-returns-2 Inv-loop μ-loop
 returns-2 c =
-    let l = c .before in
-    let a = l .before .before .args in
-    look-end (a .n) (a .rest .now) (a .size) (l .loop .o) (l .loop .inv) (omega arith)
+    let here : tie.At-loop Inv-loop μ-loop = search in
+    look-end _ _ _ _ (here .loop .inv) (omega arith)
 
 pub first-bad-spec : {M : Type 1} → statement M
 first-bad-spec =
@@ -56,10 +41,10 @@ first-bad-spec =
     Inv-loop
     μ-loop
     loop-holds
-    byte-at-requires
-    is-due-requires
+    (λ c κs. search needs)
+    (λ c κs. search needs)
     returns
-    add-o
-    loop-less
+    (λ c. omega arith)
+    (λ c. omega arith)
     loop-again
     returns-2)

@@ -57,7 +57,8 @@ loop-again c =
     let at : tie.At-loop Inv-loop μ-loop = search in
     let owned : tie.After-is-owned Inv-loop μ-loop = search in
     let e = sym (owned .is-owned .ensures) ∙ not-false _ (c .if2 .left) in
-    (omega arith, omega (arith, owned-within (start .args .drum .now) (start .args .marks .now) (start .args .b + at .loop .i) e), owned-more _ (start .args .b) (at .loop .i) (at .loop .inv .2) e)
+    let within = owned-within (start .args .drum .now) (start .args .marks .now) (start .args .b + at .loop .i) e in
+    (omega arith, omega arith, owned-more _ (start .args .b) (at .loop .i) (at .loop .inv .2) e)
 
 returns-3 : tie.Need-returns-3 Inv-loop μ-loop
 returns-3 c =

@@ -14,40 +14,38 @@ abbrev μ-loop : tie.MeasureT-loop
 μ-loop drum marks a₀ a = 1000 - a
 
 returns : tie.Need-returns Inv-loop μ-loop
-returns c = short-drum (c .before .before .before .args .drum .now) (c .before .before .before .args .marks .now) (c .if1 .taken)
+returns c =
+    let start : tie.Start Inv-loop μ-loop = search in
+    short-drum (start .args .drum .now) (start .args .marks .now) (c .if1 .taken)
 
 returns-2 : tie.Need-returns-2 Inv-loop μ-loop
-returns-2 c = short-marks (c .before .before .before .before .args .drum .now) (c .before .before .before .before .args .marks .now) (c .before .if1 .left) (c .if2 .taken)
+returns-2 c =
+    let start : tie.Start Inv-loop μ-loop = search in
+    let long : tie.Else1 Inv-loop μ-loop = search in
+    short-marks (start .args .drum .now) (start .args .marks .now) (long .if1 .left) (c .if2 .taken)
 
 loop-holds : tie.Need-loop-holds Inv-loop μ-loop
-loop-holds c = checking-begins (c .before .before .before .before .args .drum .now) (c .before .before .before .before .args .marks .now) (c .before .if1 .left) (c .if2 .left)
-
-shared-slice-read-is-cell : tie.Need-shared-slice-read-is-cell Inv-loop μ-loop
-shared-slice-read-is-cell c = search needs
-
-mul-is-cell : tie.Need-mul-is-cell Inv-loop μ-loop
-mul-is-cell c = search needs
-
-shared-slice-read-is-cell-2 : tie.Need-shared-slice-read-is-cell-2 Inv-loop μ-loop
-shared-slice-read-is-cell-2 c = search needs
-
-is-cell-requires : tie.Need-is-cell-requires Inv-loop μ-loop
-is-cell-requires c κs = search needs
+loop-holds c =
+    let start : tie.Start Inv-loop μ-loop = search in
+    let long : tie.Else1 Inv-loop μ-loop = search in
+    checking-begins (start .args .drum .now) (start .args .marks .now) (long .if1 .left) (c .if2 .left)
 
 returns-3 : tie.Need-returns-3 Inv-loop μ-loop
-returns-3 c = checking-bad (c .before .before .before .before .before .loop .inv) (c .before .before .before .before .loop-test .taken) (sym (c .before .is-cell .ensures) ∙ not-true _ (c .if3 .taken))
-
-add-a : tie.Need-add-a Inv-loop μ-loop
-add-a c = search needs
-
-loop-less : tie.Need-loop-less Inv-loop μ-loop
-loop-less c = search needs
+returns-3 c =
+    let here : tie.At-loop Inv-loop μ-loop = search in
+    let turn : tie.In-loop Inv-loop μ-loop = search in
+    let test : tie.After-is-cell Inv-loop μ-loop = search in
+    checking-bad (here .loop .inv) (turn .loop-test .taken) (sym (test .is-cell .ensures) ∙ not-true _ (c .if3 .taken))
 
 loop-again : tie.Need-loop-again Inv-loop μ-loop
-loop-again c = checking-more (c .before .before .before .before .before .loop .inv) (c .before .before .before .before .loop-test .taken) (sym (c .before .is-cell .ensures) ∙ not-false _ (c .if3 .left))
+loop-again c =
+    let here : tie.At-loop Inv-loop μ-loop = search in
+    let turn : tie.In-loop Inv-loop μ-loop = search in
+    let test : tie.After-is-cell Inv-loop μ-loop = search in
+    checking-more (here .loop .inv) (turn .loop-test .taken) (sym (test .is-cell .ensures) ∙ not-false _ (c .if3 .left))
 
 returns-4 : tie.Need-returns-4 Inv-loop μ-loop
-returns-4 c = checking-end (c .before .loop .inv) (c .loop-test .left)
+returns-4 c = let here : tie.At-loop Inv-loop μ-loop = search in checking-end (here .loop .inv) (c .loop-test .left)
 
 pub is-fit-spec : {M : Type 1} → statement M
 is-fit-spec =
@@ -58,12 +56,12 @@ is-fit-spec =
     returns
     returns-2
     loop-holds
-    shared-slice-read-is-cell
-    mul-is-cell
-    shared-slice-read-is-cell-2
-    is-cell-requires
+    (λ c. search needs)
+    (λ c. search needs)
+    (λ c. search needs)
+    (λ c κs. search needs)
     returns-3
-    add-a
-    loop-less
+    (λ c. search needs)
+    (λ c. search needs)
     loop-again
     returns-4)

@@ -23,52 +23,37 @@ abbrev μ-loop : tie.MeasureT-loop
 
 loop-holds : tie.Need-loop-holds Inv-loop μ-loop
 loop-holds c =
-    let a = c .before .before .args in
+    let start : tie.Start Inv-loop μ-loop = search in
+    let a = start .args in
     (omega arith, refl, paste-zero (a .row .now) 0 (there (a .row .now) (a .bytes .now) (a .a)))
-
-mul-number-at : tie.Need-mul-number-at Inv-loop μ-loop
-mul-number-at c = omega arith
-
-add-number-at : tie.Need-add-number-at Inv-loop μ-loop
-add-number-at c = omega arith
-
-number-at-requires : tie.Need-number-at-requires Inv-loop μ-loop
-number-at-requires c κs = omega arith
-
-mul-row : tie.Need-mul-row Inv-loop μ-loop
-mul-row c = omega arith
-
-slice-write-row : tie.Need-slice-write-row Inv-loop μ-loop
-slice-write-row c = omega arith
-
-add-i : tie.Need-add-i Inv-loop μ-loop
-add-i c = omega arith
 
 loop-less : tie.Need-loop-less Inv-loop μ-loop
 loop-less c = simp length-set (omega arith)
 
 loop-again : tie.Need-loop-again Inv-loop μ-loop
 loop-again c =
-    let a = c .before .before .before .before .before .args in
-    let l = c .before .before .loop in
-    let i = l .i in (
+    let start : tie.Start Inv-loop μ-loop = search in
+    let here : tie.At-loop Inv-loop μ-loop = search in
+    let a = start .args in
+    let l = here .loop in (
       simp length-set (omega arith),
       simp length-set (l .inv .1),
-      fill-more (a .row .now) (there (a .row .now) (a .bytes .now) (a .a)) i (length-in (length (a .row .now)) (drop (a .a) (a .bytes .now))) (l .inv .2) (c .number-at .result)
+      fill-more _ _ _ (length-in _ _) (l .inv .2) (c .number-at .result)
           (c .number-at .ensures
-          ∙ ap (λ (t : List ℕ). numberOf (take 8 t)) (sym (drop-drop (8 * i) (a .a) (a .bytes .now)))
-          ∙ sym (in-at (length (a .row .now)) (drop (a .a) (a .bytes .now)) i (omega arith)))
+          ∙ ap (λ (t : List ℕ). numberOf (take 8 t)) (sym (drop-drop (8 * l .i) (a .a) (a .bytes .now)))
+          ∙ sym (in-at (length (a .row .now)) (drop (a .a) (a .bytes .now)) (l .i) (omega arith)))
           (omega arith),
     )
 
 same-length : tie.Need-same-length Inv-loop μ-loop
-same-length c = c .before .loop .inv .1
+same-length c = let here : tie.At-loop Inv-loop μ-loop = search in here .loop .inv .1
 
 returns : tie.Need-returns Inv-loop μ-loop
 returns c =
-    let a = c .before .before .before .before .args in
-    fill-end (a .row .now) (there (a .row .now) (a .bytes .now) (a .a)) (c .before .loop .i) (length-in (length (a .row .now)) (drop (a .a) (a .bytes .now))) (c .before .loop .inv .2)
-    (let e : c .before .loop .i ≡ length (a .row .now) = omega arith in e)
+    let start : tie.Start Inv-loop μ-loop = search in
+    let here : tie.At-loop Inv-loop μ-loop = search in
+    let e : here .loop .i ≡ length (start .args .row .now) = omega arith in
+    fill-end _ _ _ (length-in _ _) (here .loop .inv .2) e
 
 pub fill-row-spec : {M : Type 1} → statement M
 fill-row-spec =
@@ -77,12 +62,12 @@ fill-row-spec =
     Inv-loop
     μ-loop
     loop-holds
-    mul-number-at
-    add-number-at
-    number-at-requires
-    mul-row
-    slice-write-row
-    add-i
+    (λ c. omega arith)
+    (λ c. omega arith)
+    (λ c κs. omega arith)
+    (λ c. omega arith)
+    (λ c. omega arith)
+    (λ c. omega arith)
     loop-less
     loop-again
     same-length

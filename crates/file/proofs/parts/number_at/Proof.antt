@@ -1,5 +1,6 @@
 -- `file::number_at` meets its contract. The loop's invariant: the number of the bytes from place i up, and that it fits so many bytes.
 -- Assumes nothing.
+use borrow.Author.Needs.{needs}
 use mathlib.Core.Path.{_≡_, sym, ap, ap₂, _∙_}
 use mathlib.Core.List.{List}
 use Prim.Native.Nat.{ℕ, suc, _+_, _*_, _-_, _^_, _≤_, _<_}
@@ -46,48 +47,36 @@ more bytes a x i h e k m q =
 loop-holds : tie.Need-loop-holds Inv-loop μ-loop
 unfolding numberOf
 loop-holds c =
-    let a = c .before .args in
-    let w = eight (a .bytes .now) (a .a) in
-    (omega arith, sym (ap numberOf (drop-of-length-le w {i = 8} (omega (arith, length-take-le 8 (drop (a .a) (a .bytes .now)) (omega (arith, length-drop (a .a) (a .bytes .now))))))), omega arith)
-
-sub-i : tie.Need-sub-i Inv-loop μ-loop
-sub-i c = omega arith
-
-add-b : tie.Need-add-b Inv-loop μ-loop
-add-b c = omega arith
-
-shared-slice-read-b : tie.Need-shared-slice-read-b Inv-loop μ-loop
-shared-slice-read-b c = omega arith
-
-wide-requires : tie.Need-wide-requires Inv-loop μ-loop
-wide-requires c κs = tt
+    let start : tie.Start Inv-loop μ-loop = search in
+    let d = drop (start .args .a) (start .args .bytes .now) in
+    let long : 8 ≤ length d = simp length-drop (omega arith) in
+    (omega arith, sym (ap numberOf (drop-of-length-le (take 8 d) {i = 8} (omega (arith, length-take-le 8 d long)))), omega arith)
 
 mul-x : tie.Need-mul-x Inv-loop μ-loop
 mul-x c =
-    let z = small (c .before .before .before .loop .x) (c .before .before .before .loop .i) (c .before .before .before .loop .inv .2) (omega arith) in
-    omega arith
+    let here : tie.At-loop Inv-loop μ-loop = search in
+    omega (arith, small _ _ (here .loop .inv .2) (omega arith))
 
 add-x : tie.Need-add-x Inv-loop μ-loop
 add-x c =
-    let z = small (c .before .before .before .loop .x) (c .before .before .before .loop .i) (c .before .before .before .loop .inv .2) (omega arith) in
-    omega (arith, c .wide .ensures .1)
-
-loop-less : tie.Need-loop-less Inv-loop μ-loop
-loop-less c = omega arith
+    let here : tie.At-loop Inv-loop μ-loop = search in
+    omega (arith, small _ _ (here .loop .inv .2) (omega arith), c .wide .ensures .1)
 
 loop-again : tie.Need-loop-again Inv-loop μ-loop
 loop-again c =
-    let l = c .before .before .before .loop in
-    let a = c .before .before .before .before .before .args in (
+    let start : tie.Start Inv-loop μ-loop = search in
+    let here : tie.At-loop Inv-loop μ-loop = search in
+    let l = here .loop in (
       omega arith,
-      more (a .bytes .now) (a .a) (l .x) (l .i) (c .before .before .before .before .before .pre) (l .inv .1) (omega arith) (l .inv .0) (c .wide .ensures .0),
-      grows (c .wide .result) (l .x) (l .i) (l .inv .2) (c .wide .ensures .1) (omega arith) (l .inv .0),
+      more _ _ _ _ (start .pre) (l .inv .1) (omega arith) (l .inv .0) (c .wide .ensures .0),
+      grows _ _ _ (l .inv .2) (c .wide .ensures .1) (omega arith) (l .inv .0),
     )
 
 returns : tie.Need-returns Inv-loop μ-loop
 returns c =
-    let e : c .before .loop .i ≡ 0 = omega arith in
-    c .before .loop .inv .1 ∙ ap (λ (j : ℕ). numberOf (drop j (eight (c .before .before .before .args .bytes .now) (c .before .before .before .args .a)))) e
+    let here : tie.At-loop Inv-loop μ-loop = search in
+    let e : here .loop .i ≡ 0 = omega arith in
+    rw e at (here .loop .inv .1)
 
 pub number-at-spec : {M : Type 1} → statement M
 number-at-spec =
@@ -96,12 +85,12 @@ number-at-spec =
     Inv-loop
     μ-loop
     loop-holds
-    sub-i
-    add-b
-    shared-slice-read-b
-    wide-requires
+    (λ c. omega arith)
+    (λ c. omega arith)
+    (λ c. omega arith)
+    (λ c κs. search needs)
     mul-x
     add-x
-    loop-less
+    (λ c. omega arith)
     loop-again
     returns)

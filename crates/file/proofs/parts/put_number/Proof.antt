@@ -23,25 +23,12 @@ loop-holds c =
     let a = c .args in
     (omega arith, refl, paste-zero (a .out .now) (a .a) (lowBytes 8 (a .x)), refl)
 
-cast-out : tie.Need-cast-out Inv-loop μ-loop
-cast-out c = omega arith
-
-add-out : tie.Need-add-out Inv-loop μ-loop
-add-out c = omega arith
-
-slice-write-out : tie.Need-slice-write-out Inv-loop μ-loop
-slice-write-out c = omega arith
-
-add-i : tie.Need-add-i Inv-loop μ-loop
-add-i c = omega arith
-
-loop-less : tie.Need-loop-less Inv-loop μ-loop
-loop-less c = omega arith
-
 loop-again : tie.Need-loop-again Inv-loop μ-loop
 loop-again c =
-    let a = c .before .before .args in
-    let l = c .before .loop in
+    let start : tie.Start Inv-loop μ-loop = search in
+    let here : tie.At-loop Inv-loop μ-loop = search in
+    let a = start .args in
+    let l = here .loop in
     let i = l .i in (
       omega arith,
       simp length-set (l .inv .1),
@@ -52,13 +39,15 @@ loop-again c =
     )
 
 same-length : tie.Need-same-length Inv-loop μ-loop
-same-length c = c .before .loop .inv .1
+same-length c = let here : tie.At-loop Inv-loop μ-loop = search in here .loop .inv .1
 
 returns : tie.Need-returns Inv-loop μ-loop
 returns c =
-    let a = c .before .before .args in
-    copy-end (a .out .now) (lowBytes 8 (a .x)) (a .a) (c .before .loop .i) (c .before .loop .inv .2)
-    (let e : c .before .loop .i ≡ length (lowBytes 8 (a .x)) = omega (arith, length-low 8 (a .x)) in e)
+    let start : tie.Start Inv-loop μ-loop = search in
+    let here : tie.At-loop Inv-loop μ-loop = search in
+    let low = lowBytes 8 (start .args .x) in
+    let e : here .loop .i ≡ length low = omega (arith, length-low 8 (start .args .x)) in
+    copy-end _ low _ _ (here .loop .inv .2) e
 
 pub put-number-spec : {M : Type 1} → statement M
 put-number-spec =
@@ -67,11 +56,11 @@ put-number-spec =
     Inv-loop
     μ-loop
     loop-holds
-    cast-out
-    add-out
-    slice-write-out
-    add-i
-    loop-less
+    (λ c. omega arith)
+    (λ c. omega arith)
+    (λ c. omega arith)
+    (λ c. omega arith)
+    (λ c. omega arith)
     loop-again
     same-length
     returns)

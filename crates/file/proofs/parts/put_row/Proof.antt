@@ -20,53 +20,36 @@ abbrev μ-loop : tie.MeasureT-loop
 
 loop-holds : tie.Need-loop-holds Inv-loop μ-loop
 unfolding rowBytes
-loop-holds c = (omega arith, refl, splice-none (c .before .before .args .a) (c .before .before .args .out .now))
-
-mul-x : tie.Need-mul-x Inv-loop μ-loop
-mul-x c = omega arith
-
-shared-slice-read-x : tie.Need-shared-slice-read-x Inv-loop μ-loop
-shared-slice-read-x c = omega arith
-
-mul-put-number : tie.Need-mul-put-number Inv-loop μ-loop
-mul-put-number c = omega arith
-
-add-put-number : tie.Need-add-put-number Inv-loop μ-loop
-add-put-number c = omega arith
-
-put-number-requires : tie.Need-put-number-requires Inv-loop μ-loop
-put-number-requires c κs = omega arith
-
-add-i : tie.Need-add-i Inv-loop μ-loop
-add-i c = omega arith
-
-loop-less : tie.Need-loop-less Inv-loop μ-loop
-loop-less c = omega arith
+loop-holds c = (omega arith, refl, splice-none _ _)
 
 loop-again : tie.Need-loop-again Inv-loop μ-loop
 loop-again c =
-    let a = c .before .before .before .before .before .before .before .before .before .args in
-    let l = c .before .before .before .before .before .before .loop in
+    let start : tie.Start Inv-loop μ-loop = search in
+    let here : tie.At-loop Inv-loop μ-loop = search in
+    let put : tie.After-put-number Inv-loop μ-loop = search in
+    let a = start .args in
+    let l = here .loop in
     let i = l .i in
     let row = a .row .now in
     let x = getD row i 0 in
     let t : length (take i row) ≡ i = length-take-le i row (omega arith) in (
       omega arith,
-      c .before .before .put-number .kept .0 ∙ l .inv .1,
-      c .before .before .put-number .ensures
+      put .put-number .kept .0 ∙ l .inv .1,
+      put .put-number .ensures
           ∙ ap (splice (a .a + 8 * i) (lowBytes 8 x)) (l .inv .2)
-          ∙ splice-more (a .a) (a .a + 8 * i) (rowBytes (take i row)) (lowBytes 8 x) (a .out .now) (omega (arith, length-row (take i row))) (omega (arith, length-low 8 x, c .before .before .before .before .before .before .before .before .before .pre))
+          ∙ splice-more (a .a) (a .a + 8 * i) (rowBytes (take i row)) (lowBytes 8 x) (a .out .now) (omega (arith, length-row (take i row)))
+          (omega (arith, length-low 8 x, start .pre))
           ∙ ap (λ (s : List ℕ). splice (a .a) s (a .out .now)) (sym (row-more row i (omega arith))),
     )
 
 same-length : tie.Need-same-length Inv-loop μ-loop
-same-length c = c .before .loop .inv .1
+same-length c = let here : tie.At-loop Inv-loop μ-loop = search in here .loop .inv .1
 
 returns : tie.Need-returns Inv-loop μ-loop
 returns c =
-    let a = c .before .before .before .before .args in
-    c .before .loop .inv .2
-    ∙ ap (λ (l : List ℕ). splice (a .a) (rowBytes l) (a .out .now)) (take-all (c .before .loop .i) (a .row .now) (omega arith))
+    let start : tie.Start Inv-loop μ-loop = search in
+    let here : tie.At-loop Inv-loop μ-loop = search in
+    rw (take-all (here .loop .i) (start .args .row .now) (omega arith)) at (here .loop .inv .2)
 
 pub put-row-spec : {M : Type 1} → statement M
 put-row-spec =
@@ -75,13 +58,13 @@ put-row-spec =
     Inv-loop
     μ-loop
     loop-holds
-    mul-x
-    shared-slice-read-x
-    mul-put-number
-    add-put-number
-    put-number-requires
-    add-i
-    loop-less
+    (λ c. omega arith)
+    (λ c. omega arith)
+    (λ c. omega arith)
+    (λ c. omega arith)
+    (λ c κs. omega arith)
+    (λ c. omega arith)
+    (λ c. omega arith)
     loop-again
     same-length
     returns)

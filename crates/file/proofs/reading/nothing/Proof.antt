@@ -7,9 +7,6 @@ use Rattle.file.specs.declared.reading.Found.{Found}
 use Rattle.file.proofs.reading.nothing.Statement.{statement}
 use Rattle.file.proofs.reading.nothing.Tie as tie
 
-none-requires : tie.Need-none-requires
-none-requires c κs = search needs
-
 returns : tie.Need-returns
 returns c =
     let none : tie.After-none = search in
@@ -17,4 +14,4 @@ returns c =
     ap found (none .none .ensures)
 
 pub nothing-spec : {M : Type 1} → statement M
-nothing-spec = tie.close (tie.spec none-requires returns)
+nothing-spec = tie.close (tie.spec (λ c κs. search needs) returns)

@@ -10,44 +10,28 @@ use Rattle.file.proofs.Wholes.{whole-is, no-drum, no-marks, file-is, no
 use Rattle.file.proofs.reading.read_file.Statement.{statement}
 use Rattle.file.proofs.reading.read_file.Tie as tie
 
-nothing-requires : tie.Need-nothing-requires
-nothing-requires c κs = search needs
-
 returns : tie.Need-returns
 returns c =
-    let a = c .before .before .before .before .before .args in
-    not-read (a .drum .now) (a .marks .now) (a .bytes .now) (not-whole (a .drum .now) (a .marks .now) (a .bytes .now) (no-drum (a .drum .now) (a .marks .now) (c .before .if1 .taken))) (c .nothing .ensures)
-
-nothing-requires-2 : tie.Need-nothing-requires-2
-nothing-requires-2 c κs = search needs
+    let bad : tie.Then1 = search in
+    let start : tie.Start = search in
+    let a = start .args in
+    let no = no-drum (a .drum .now) (a .marks .now) (bad .if1 .taken) in
+    not-read _ _ _ (not-whole (a .drum .now) (a .marks .now) (a .bytes .now) no) (c .nothing .ensures)
 
 returns-2 : tie.Need-returns-2
 returns-2 c =
-    let a = c .before .before .before .before .before .before .args in
-    not-read (a .drum .now) (a .marks .now) (a .bytes .now) (not-whole (a .drum .now) (a .marks .now) (a .bytes .now) (no-marks (a .drum .now) (a .marks .now) (c .before .if2 .taken))) (c .nothing2 .ensures)
-
-nothing-requires-3 : tie.Need-nothing-requires-3
-nothing-requires-3 c κs = search needs
+    let bad : tie.Then2 = search in
+    let start : tie.Start = search in
+    let a = start .args in
+    let no = no-marks (a .drum .now) (a .marks .now) (bad .if2 .taken) in
+    not-read _ _ _ (not-whole (a .drum .now) (a .marks .now) (a .bytes .now) no) (c .nothing2 .ensures)
 
 returns-3 : tie.Need-returns-3
 returns-3 c =
-    let a = c .before .before .before .before .before .before .before .args in
-    not-read (a .drum .now) (a .marks .now) (a .bytes .now) (no-bytes (a .drum .now) (a .marks .now) (a .bytes .now) (c .before .if3 .taken)) (c .nothing3 .ensures)
-
-fill-row-requires : tie.Need-fill-row-requires
-fill-row-requires c κs = search needs
-
-copy-requires : tie.Need-copy-requires
-copy-requires c κs = search needs
-
-state-at-requires : tie.Need-state-at-requires
-state-at-requires c κs = search needs
-
-same-length : tie.Need-same-length
-same-length c = search needs
-
-same-length-2 : tie.Need-same-length-2
-same-length-2 c = search needs
+    let bad : tie.Then3 = search in
+    let start : tie.Start = search in
+    let a = start .args in
+    not-read _ _ _ (no-bytes (a .drum .now) (a .marks .now) (a .bytes .now) (bad .if3 .taken)) (c .nothing3 .ensures)
 
 returns-4 : tie.Need-returns-4
 unfolding drumIn marksIn
@@ -71,15 +55,15 @@ pub read-file-spec : {M : Type 1} → statement M
 read-file-spec =
     tie.close
     (tie.spec
-    nothing-requires
+    (λ c κs. search needs)
     returns
-    nothing-requires-2
+    (λ c κs. search needs)
     returns-2
-    nothing-requires-3
+    (λ c κs. search needs)
     returns-3
-    fill-row-requires
-    copy-requires
-    state-at-requires
-    same-length
-    same-length-2
+    (λ c κs. search needs)
+    (λ c κs. search needs)
+    (λ c κs. search needs)
+    (λ c. search needs)
+    (λ c. search needs)
     returns-4)

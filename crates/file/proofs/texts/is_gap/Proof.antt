@@ -7,10 +7,10 @@ returns : tie.Need-returns
 returns c = simp (eq-eqb _ 32 (c .if1 .taken))
 
 returns-2 : tie.Need-returns-2
-returns-2 c = simp (ne-eqb _ 32 (c .before .if1 .left), eq-eqb _ 10 (c .if2 .taken))
+returns-2 c = let other : tie.Else1 = search in simp (ne-eqb _ 32 (other .if1 .left), eq-eqb _ 10 (c .if2 .taken))
 
 returns-3 : tie.Need-returns-3
-returns-3 c = simp (ne-eqb _ 32 (c .before .if1 .left), ne-eqb _ 10 (c .if2 .left))
+returns-3 c = let other : tie.Else1 = search in simp (ne-eqb _ 32 (other .if1 .left), ne-eqb _ 10 (c .if2 .left))
 
 pub is-gap-spec : {M : Type 1} → statement M
 is-gap-spec = tie.close (tie.spec returns returns-2 returns-3)

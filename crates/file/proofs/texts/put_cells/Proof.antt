@@ -2,7 +2,7 @@
 use mathlib.Core.Path.{_≡_, refl}
 use Prim.Native.Nat.{_-_, _≤_}
 use native.Mathlib.Omega.{arith}
-use lib.ListN.{length, getD, length-set}
+use lib.ListN.{length, length-set}
 use lib.Seq.{paste, paste-zero}
 use Rattle.bytes.proofs.Copies.{fill-more, fill-end}
 use Rattle.file.proofs.texts.put_cells.Statement.{statement}
@@ -17,41 +17,28 @@ abbrev μ-loop : tie.MeasureT-loop
 loop-holds : tie.Need-loop-holds Inv-loop μ-loop
 loop-holds c = (omega arith, refl, paste-zero (c .args .drum .now) 0 (c .args .cells .now))
 
-mul-drum : tie.Need-mul-drum Inv-loop μ-loop
-mul-drum c = omega arith
-
 shared-slice-read-drum : tie.Need-shared-slice-read-drum Inv-loop μ-loop
-shared-slice-read-drum c = omega (arith, c .before .before .before .pre)
-
-mul-drum-2 : tie.Need-mul-drum-2 Inv-loop μ-loop
-mul-drum-2 c = omega arith
-
-slice-write-drum : tie.Need-slice-write-drum Inv-loop μ-loop
-slice-write-drum c = omega arith
-
-add-i : tie.Need-add-i Inv-loop μ-loop
-add-i c = omega arith
+shared-slice-read-drum c = let start : tie.Start Inv-loop μ-loop = search in omega (arith, start .pre)
 
 loop-less : tie.Need-loop-less Inv-loop μ-loop
 loop-less c = simp length-set (omega arith)
 
 loop-again : tie.Need-loop-again Inv-loop μ-loop
 loop-again c =
-    let a = c .before .before .before .args in
-    let l = c .before .before .loop in (
-      simp length-set (omega arith),
-      simp length-set (l .inv .1),
-      fill-more (a .drum .now) (a .cells .now) (l .i) (c .before .before .before .pre) (l .inv .2) (getD (a .cells .now) (l .i) 0) refl (omega arith),
-    )
+    let start : tie.Start Inv-loop μ-loop = search in
+    let here : tie.At-loop Inv-loop μ-loop = search in
+    let l = here .loop in
+    (simp length-set (omega arith), simp length-set (l .inv .1), fill-more _ _ _ (start .pre) (l .inv .2) _ refl (omega arith))
 
 same-length : tie.Need-same-length Inv-loop μ-loop
-same-length c = c .before .loop .inv .1
+same-length c = let here : tie.At-loop Inv-loop μ-loop = search in here .loop .inv .1
 
 returns : tie.Need-returns Inv-loop μ-loop
 returns c =
-    let a = c .before .before .args in
-    fill-end (a .drum .now) (a .cells .now) (c .before .loop .i) (c .before .before .pre) (c .before .loop .inv .2)
-    (let e : c .before .loop .i ≡ length (a .drum .now) = omega arith in e)
+    let start : tie.Start Inv-loop μ-loop = search in
+    let here : tie.At-loop Inv-loop μ-loop = search in
+    let e : here .loop .i ≡ length (start .args .drum .now) = omega arith in
+    fill-end _ _ _ (start .pre) (here .loop .inv .2) e
 
 pub put-cells-spec : {M : Type 1} → statement M
 put-cells-spec =
@@ -60,11 +47,11 @@ put-cells-spec =
     Inv-loop
     μ-loop
     loop-holds
-    mul-drum
+    (λ c. omega arith)
     shared-slice-read-drum
-    mul-drum-2
-    slice-write-drum
-    add-i
+    (λ c. omega arith)
+    (λ c. omega arith)
+    (λ c. omega arith)
     loop-less
     loop-again
     same-length

@@ -21,15 +21,6 @@ loop-holds c =
     let start : tie.Start Inv-loop μ-loop = search in
     reading-begins (start .args .text .now) (start .args .cells .now)
 
-shared-slice-read-b : tie.Need-shared-slice-read-b Inv-loop μ-loop
-shared-slice-read-b c = omega arith
-
-add-i : tie.Need-add-i Inv-loop μ-loop
-add-i c = omega arith
-
-is-gap-requires : tie.Need-is-gap-requires Inv-loop μ-loop
-is-gap-requires c κs = tt
-
 end-number-requires : tie.Need-end-number-requires Inv-loop μ-loop
 end-number-requires c κs =
     let loop : tie.At-loop Inv-loop μ-loop = search in
@@ -48,11 +39,8 @@ returns c =
     let test : tie.After-is-gap Inv-loop μ-loop = search in
     let turn : tie.In-loop Inv-loop μ-loop = search in
     let loop : tie.At-loop Inv-loop μ-loop = search in
-    reading-full (loop .loop .inv) (end .end-number .result) (end .end-number .last .0) (turn .loop-test .taken) (sym (test .is-gap .ensures) ∙ gap .if1 .taken)
-    (end .end-number .ensures .0) (end .end-number .ensures .1) (c .if2 .taken)
-
-loop-less : tie.Need-loop-less Inv-loop μ-loop
-loop-less c = omega arith
+    reading-full (loop .loop .inv) (end .end-number .result) (end .end-number .last .0) (turn .loop-test .taken)
+    (sym (test .is-gap .ensures) ∙ gap .if1 .taken) (end .end-number .ensures .0) (end .end-number .ensures .1) (c .if2 .taken)
 
 loop-again : tie.Need-loop-again Inv-loop μ-loop
 loop-again c =
@@ -64,15 +52,6 @@ loop-again c =
     reading-gap (loop .loop .inv) (end .end-number .result) (end .end-number .last .0) (turn .loop-test .taken) (sym (test .is-gap .ensures) ∙ gap .if1 .taken)
     (end .end-number .ensures .0) (end .end-number .ensures .1) (c .if2 .left)
 
-with-digit-requires : tie.Need-with-digit-requires Inv-loop μ-loop
-with-digit-requires c κs = tt
-
-enum-known-y : tie.Need-enum-known-y Inv-loop μ-loop
-enum-known-y c = search needs
-
-loop-less-2 : tie.Need-loop-less-2 Inv-loop μ-loop
-loop-less-2 c = omega arith
-
 loop-again-2 : tie.Need-loop-again-2 Inv-loop μ-loop
 loop-again-2 c =
     let read : tie.After-with-digit Inv-loop μ-loop = search in
@@ -80,12 +59,10 @@ loop-again-2 c =
     let test : tie.After-is-gap Inv-loop μ-loop = search in
     let turn : tie.In-loop Inv-loop μ-loop = search in
     let loop : tie.At-loop Inv-loop μ-loop = search in
-    let e = sym (c .before .y .given .1) ∙ read .with-digit .ensures in
-    reading-digit (loop .loop .inv) (c .before .y .given .0 .0) (turn .loop-test .taken) (sym (test .is-gap .ensures) ∙ other .if1 .left)
+    let y : tie.After-y Inv-loop μ-loop = search in
+    let e = sym (y .y .given .1) ∙ read .with-digit .ensures in
+    reading-digit (loop .loop .inv) (y .y .given .0 .0) (turn .loop-test .taken) (sym (test .is-gap .ensures) ∙ other .if1 .left)
     (takes-is _ _ ∙ ap took (sym e)) (number-is _ _ e .1)
-
-enum-told : tie.Need-enum-told Inv-loop μ-loop
-enum-told c = search needs
 
 same-length-2 : tie.Need-same-length-2 Inv-loop μ-loop
 same-length-2 c =
@@ -101,9 +78,6 @@ returns-2 c =
     let loop : tie.At-loop Inv-loop μ-loop = search in
     reading-bad (loop .loop .inv) (turn .loop-test .taken) (sym (test .is-gap .ensures) ∙ other .if1 .left)
     (takes-is _ _ ∙ ap took (sym (read .with-digit .ensures) ∙ c .enum-told .given .1))
-
-enum-told-2 : tie.Need-enum-told-2 Inv-loop μ-loop
-enum-told-2 c = search needs
 
 same-length-3 : tie.Need-same-length-3 Inv-loop μ-loop
 same-length-3 c =
@@ -135,7 +109,8 @@ returns-4 : tie.Need-returns-4 Inv-loop μ-loop
 returns-4 c =
     let end : tie.After-end-number2 Inv-loop μ-loop = search in
     let loop : tie.At-loop Inv-loop μ-loop = search in
-    reading-ends (loop .loop .inv) (end .end-number2 .result) (end .end-number2 .last .0) (omega arith) (end .end-number2 .ensures .0) (end .end-number2 .ensures .1)
+    reading-ends (loop .loop .inv) (end .end-number2 .result) (end .end-number2 .last .0) (omega arith)
+    (end .end-number2 .ensures .0) (end .end-number2 .ensures .1)
 
 pub scan-spec : {M : Type 1} → statement M
 scan-spec =
@@ -144,22 +119,22 @@ scan-spec =
     Inv-loop
     μ-loop
     loop-holds
-    shared-slice-read-b
-    add-i
-    is-gap-requires
+    (λ c. omega arith)
+    (λ c. omega arith)
+    (λ c κs. search needs)
     end-number-requires
     same-length
     returns
-    loop-less
+    (λ c. omega arith)
     loop-again
-    with-digit-requires
-    enum-known-y
-    loop-less-2
+    (λ c κs. search needs)
+    (λ c. search needs)
+    (λ c. omega arith)
     loop-again-2
-    enum-told
+    (λ c. search needs)
     same-length-2
     returns-2
-    enum-told-2
+    (λ c. search needs)
     same-length-3
     returns-3
     end-number-requires-2
