@@ -1,9 +1,7 @@
 // Stops and transfers.
 ghost use mathlib.Core.Path.{_≡_};
 ghost use Prim.Native.Nat.{_<_};
-ghost use lib.Dec.{leb};
-ghost use Rattle.rules.specs.Words.{pick, exponentIn};
-ghost use Rattle.rules.specs.Orders.{isNegative, gone, linked};
+ghost use Rattle.rules.specs.Orders.{gone, linked};
 ghost use Rattle.rules.specs.Machine.{Inputs, done};
 ghost use Rattle.machine.specs.Lent.{Fitting, DoesQuietly};
 use crate::rows::go_on;
@@ -13,21 +11,6 @@ use rules::Going;
 use rules::Outcome;
 use rules::Stop;
 use rules::Switches;
-
-// TR SGN: where to go, by the word in cell 000.
-fn sign_target(w: u64, b: usize, c: usize) -> usize
-    ensures { λ r. ⌜ r ≡ pick (isNegative w) c b ⌝ }
-{
-    if words::is_negative(w) { c } else { b }
-}
-
-// TR EXP: where to go, by the last two digits of cell 000.
-fn exponent_target(w: u64, b: usize, c: usize, next: usize) -> usize
-    ensures { λ r. ⌜ r ≡ pick (leb b (exponentIn w)) c next ⌝ }
-{
-    let x = words::exponent_in(w);
-    if b <= x { c } else { next }
-}
 
 // TR SUBR: the order at c is changed, and is the next.
 fn link(drum: &mut [u64], marks: &mut [u8], row: &mut [u64; 10], b: usize, c: usize)
@@ -71,14 +54,14 @@ pub fn go(
         }
         Going::TrSgn => {
             let w = drum::word(drum, marks, 0);
-            let l = sign_target(w, b, c);
+            let l = words::sign_target(w, b, c);
             go_to(row, l);
             Outcome::GoesOn
         }
         Going::TrExp => {
             let w = drum::word(drum, marks, 0);
             let next = location(row) + 1;
-            let l = exponent_target(w, b, c, next);
+            let l = words::exponent_target(w, b, c, next);
             go_to(row, l);
             Outcome::GoesOn
         }

@@ -22,10 +22,10 @@ use Rattle.stops.proofs.outcome_number.Kinds as outcome-number-kinds
 use Rattle.stops.proofs.outcome_number.Reads as outcome-number
 use Rattle.stops.proofs.outcome_shown.Kinds as outcome-shown-kinds
 use Rattle.stops.proofs.outcome_shown.Reads as outcome-shown
-use Rattle.stops.proofs.may_go_on.Kinds as may-go-on-kinds
-use Rattle.stops.proofs.may_go_on.Reads as may-go-on
-use Rattle.stops.proofs.completed_by.Kinds as completed-by-kinds
-use Rattle.stops.proofs.completed_by.Reads as completed-by
+use Rattle.stops.proofs.counts.may_go_on.Kinds as may-go-on-kinds
+use Rattle.stops.proofs.counts.may_go_on.Reads as may-go-on
+use Rattle.stops.proofs.counts.completed_by.Kinds as completed-by-kinds
+use Rattle.stops.proofs.counts.completed_by.Reads as completed-by
 use Rattle.stops.proofs.ending_number.Kinds as ending-number-kinds
 use Rattle.stops.proofs.ending_number.Reads as ending-number
 use Rattle.stops.proofs.ending_place.Kinds as ending-place-kinds

@@ -1,5 +1,9 @@
 // The paper's number for each answer, and the value that goes with it. In code these numbers stand here and nowhere else; the rules
 // define them.
+mod counts;
+
+pub use counts::completed_by;
+pub use counts::may_go_on;
 use rules::Bar;
 use rules::DeckFault;
 use rules::Ending;
@@ -10,7 +14,7 @@ use rules::Refusal;
 use rules::Stop;
 ghost use mathlib.Core.Path.{_≡_};
 ghost use Rattle.rules.specs.Numbers.{refusalNumber, reckonedNumber, reckonedWord, deckNumber, deckPlace, barNumber, barPlace};
-ghost use Rattle.rules.specs.Numbers.{stopNumber, outcomeNumber, outcomeShown, mayGoOn, completed, endingNumber, endingPlace, endingShown, loadingNumber, loadingPlace};
+ghost use Rattle.rules.specs.Numbers.{stopNumber, outcomeNumber, outcomeShown, endingNumber, endingPlace, endingShown, loadingNumber, loadingPlace};
 
 // Why an order, or arithmetic on words, is refused.
 pub fn refusal_number(x: Refusal) -> u64
@@ -126,28 +130,6 @@ pub fn outcome_shown(x: Outcome) -> u64
     match x {
         Outcome::Stops(_, w) => w,
         Outcome::GoesOn => 0,
-        Outcome::Undone(_) => 0,
-    }
-}
-
-// Whether the next order may be begun.
-pub fn may_go_on(x: Outcome) -> bool
-    ensures { λ r. ⌜ r ≡ mayGoOn x ⌝ }
-{
-    match x {
-        Outcome::Stops(_, _) => false,
-        Outcome::GoesOn => true,
-        Outcome::Undone(_) => false,
-    }
-}
-
-// How many orders were completed: a stop is one, an order that is undone is none.
-pub fn completed_by(x: Outcome) -> u64
-    ensures { λ r. ⌜ r ≡ completed x ⌝ }
-{
-    match x {
-        Outcome::Stops(_, _) => 1,
-        Outcome::GoesOn => 1,
         Outcome::Undone(_) => 0,
     }
 }

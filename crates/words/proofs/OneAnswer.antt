@@ -18,6 +18,10 @@ use Rattle.words.proofs.changes.new_address.Kinds as new-address-kinds
 use Rattle.words.proofs.changes.new_address.Reads as new-address
 use Rattle.words.proofs.changes.linked_word.Kinds as linked-word-kinds
 use Rattle.words.proofs.changes.linked_word.Reads as linked-word
+use Rattle.words.proofs.targets.sign_target.Kinds as sign-target-kinds
+use Rattle.words.proofs.targets.sign_target.Reads as sign-target
+use Rattle.words.proofs.targets.exponent_target.Kinds as exponent-target-kinds
+use Rattle.words.proofs.targets.exponent_target.Reads as exponent-target
 
 pub one-parts : OneResult 0 parts-of-kinds.ps parts-of-kinds.r parts-of.Post
 one-parts κs a x y s t p q =
@@ -43,3 +47,9 @@ one-new-address κs a x y s t p q = p ∙ sym q
 
 pub one-linked-word : OneResult 0 linked-word-kinds.ps linked-word-kinds.r linked-word.Post
 one-linked-word κs a x y s t p q = p ∙ sym q
+
+pub one-sign-target : OneResult 0 sign-target-kinds.ps sign-target-kinds.r sign-target.Post
+one-sign-target κs a x y s t p q = p ∙ sym q
+
+pub one-exponent-target : OneResult 0 exponent-target-kinds.ps exponent-target-kinds.r exponent-target.Post
+one-exponent-target κs a x y s t p q = p ∙ sym q

@@ -1,8 +1,11 @@
 // What stands in a word: its sign, and the parts of an order. Each function takes any number.
 mod changes;
+mod targets;
 
 pub use changes::linked_word;
 pub use changes::new_address;
+pub use targets::exponent_target;
+pub use targets::sign_target;
 ghost use mathlib.Core.Path.{_≡_};
 ghost use Prim.Native.Nat.{_≤_, _<_};
 ghost use Rattle.rules.specs.Words.{addressIn, worthOf, exponentIn};

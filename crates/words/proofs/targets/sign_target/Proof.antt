@@ -1,7 +1,7 @@
--- `machine::going::sign_target`: by the sign. Assumes nothing.
+-- `words::targets::sign_target`: by the sign. Assumes nothing.
 use borrow.Author.Needs.{needs}
-use Rattle.machine.proofs.going.sign_target.Statement.{statement}
-use Rattle.machine.proofs.going.sign_target.Tie as tie
+use Rattle.words.proofs.targets.sign_target.Statement.{statement}
+use Rattle.words.proofs.targets.sign_target.Tie as tie
 
 is-negative-requires : tie.Need-is-negative-requires
 is-negative-requires c κs = search needs

@@ -1,9 +1,9 @@
--- `machine::going::exponent_target`: by the last two digits. Assumes nothing.
+-- `words::targets::exponent_target`: by the last two digits. Assumes nothing.
 use mathlib.Core.Path.{sym}
 use borrow.Author.Tests.{le-leb, lt-leb}
 use borrow.Author.Needs.{needs}
-use Rattle.machine.proofs.going.exponent_target.Statement.{statement}
-use Rattle.machine.proofs.going.exponent_target.Tie as tie
+use Rattle.words.proofs.targets.exponent_target.Statement.{statement}
+use Rattle.words.proofs.targets.exponent_target.Tie as tie
 
 exponent-in-requires : tie.Need-exponent-in-requires
 exponent-in-requires c κs = search needs
