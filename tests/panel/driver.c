@@ -111,14 +111,14 @@ static struct lent *const bench[] = {&drum, &marks, &deck, &output, &state};
 #define RUNS (sizeof bench / sizeof *bench)
 #define GUARD 64
 
-/* What the byte i of a guard holds: no two neighbours are the same, and none is a byte of a card, a mark or a number that is likely. */
+/* What the byte i of a guard holds; no two are the same. */
 static uint8_t guard(size_t i)
 {
     return (uint8_t)(0xC3 + 29 * i);
 }
 
-/* Makes the length n, with both guards as they must be. What lies there is lost where n is larger than before. A pointer that is lent is
- * never null, not even at length 0, and is aligned for a number. */
+/* Makes the length n, with both guards as they must be. A pointer that is lent is never null, not even at length 0, and is aligned for a
+ * number. */
 static void stretch(struct lent *l, size_t n)
 {
     size_t i;
@@ -132,8 +132,8 @@ static void stretch(struct lent *l, size_t n)
     }
     l->length = n;
     for (i = 0; i < GUARD; i++) {
-        l->at[i - GUARD] = guard(i);
-        l->at[n + i] = guard(i);
+        (l->at - GUARD)[i] = guard(i);
+        (l->at + n)[i] = guard(i);
     }
 }
 
@@ -150,13 +150,14 @@ static uint64_t digest(const struct lent *l)
 /* The digest of the deck as it was set: no call may write there. */
 static uint64_t deck_as_set;
 
-/* Says in words that the guard of a run was touched; quiet is for the trial. */
-static int quiet;
+/* Says in words where a call has written, so often at most. */
+static int to_tell = 10;
 
 static void tell(const char *where, const char *name)
 {
-    if (quiet)
+    if (to_tell == 0)
         return;
+    to_tell--;
     say("driver: a call has written ");
     say(where);
     say(name);
@@ -342,7 +343,7 @@ static void guards(void)
 {
     size_t r, i;
 
-    quiet = 1;
+    to_tell = 0;
     for (r = 0; r < RUNS; r++)
         stretch(bench[r], 8 * r);
     memset(deck.at, '1', deck.length);
@@ -351,7 +352,7 @@ static void guards(void)
         quit("driver: a guard is told that was not touched\n");
     for (r = 0; r < RUNS; r++)
         for (i = 0; i < 2 * GUARD; i++) {
-            uint8_t *at = i < GUARD ? bench[r]->at - GUARD + i : bench[r]->at + bench[r]->length + i - GUARD;
+            uint8_t *at = i < GUARD ? bench[r]->at - GUARD + i : bench[r]->at + bench[r]->length + (i - GUARD);
             *at ^= 0x10;
             if (touched() != 2 * r + 1 + i / GUARD)
                 quit("driver: a guard that was touched is not told\n");

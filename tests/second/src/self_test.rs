@@ -6,10 +6,15 @@ use std::fs;
 use std::path::{Path, PathBuf};
 use std::process::Command;
 
+use crate::model::state::NUMBERS;
+
 const KINDS: [&str; 3] = ["numbers", "decks", "sessions"];
 
 /// Enough cases for full coverage; the spoiled answers are judged on so many.
 const FEW: u64 = 1_000;
+
+/// What follows number and place of a load, and the six numbers of a run.
+const BLOCK: usize = 1 + NUMBERS + 2;
 
 /// All codes that an order can have.
 const CODES: u64 = 10_000;
@@ -21,7 +26,7 @@ const NONE: &str = " 0 differences,";
 /// sessions these are all parts of the answers to a load and to the run behind it.
 fn spoiled(kind: &str) -> usize {
     match kind {
-        "sessions" => 14 + 18,
+        "sessions" => (2 + BLOCK) + (6 + BLOCK),
         "decks" => 6,
         _ => 4,
     }

@@ -38,8 +38,8 @@ pub fn no_word(by: Above, chance: &mut Chance) -> u64 {
         Above::Near => chance.pick(&[2 * MINUS, 2 * MINUS + word, 3 * MINUS - 1]),
         Above::Far => {
             let tens = chance.pick_or(&[3, 3, 4, 5, 10, 11, 100], 3, 1_000_000);
-            let bits = (1 << 63) + word;
-            chance.pick(&[tens * MINUS, tens * MINUS + word, bits, u64::MAX])
+            let bits = chance.pick(&[1 << 35, 1 << 40, 1 << 63]);
+            chance.pick(&[tens * MINUS, tens * MINUS + word, bits, bits + word, u64::MAX])
         }
     }
 }
