@@ -102,6 +102,7 @@ fn punching(large: Large, draft: &mut Draft, chance: &mut Chance) {
         draft.put(cell, any_word(chance));
     }
     draft.put_order(location, built(Code::Pch, 0, first, last));
+    let beyond = punching_beyond(first, last, draft, chance);
     let cards = length.div_ceil(5);
     let counter = match large {
         Large::PchWraps => 9_999 - chance.between(1, cards - 1),
@@ -113,10 +114,24 @@ fn punching(large: Large, draft: &mut Draft, chance: &mut Chance) {
     let whole = punched_length(length);
     draft.run(whole - chance.pick(&[1, 1, 11, whole]), 1, 0);
     draft.run(whole + chance.pick(&[0, 0, 1, 300]), 1, 0);
-    // One cell more, which is marked only where the order lies in it.
-    if last < 999 && location + 1 != first && location < 999 {
-        draft.run(whole + 100, chance.between(1, 2), 0);
+    if let Some(location) = beyond {
+        draft.set_state(State { location, ..draft.state() });
+        draft.run(whole + 100, 1, 0);
     }
+}
+
+/// The location of a PCH of one cell more, which is not marked; none where cells are scarce.
+fn punching_beyond(first: u64, last: u64, draft: &mut Draft, chance: &mut Chance) -> Option<u64> {
+    let hole = last + 1;
+    if last - first > 900 || hole == 1_000 || draft.marks.contains_key(&hole) {
+        return None;
+    }
+    let mut location = hole;
+    while location == hole {
+        location = draft.free(1, chance);
+    }
+    draft.put_order(location, built(Code::Pch, 0, first, hole));
+    Some(location)
 }
 
 /// Trace cards past 65,535 bytes, with a loop box that makes them all different.
