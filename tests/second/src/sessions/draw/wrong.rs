@@ -39,7 +39,14 @@ pub fn no_word(by: Above, chance: &mut Chance) -> u64 {
         Above::Far => {
             let tens = chance.pick_or(&[3, 3, 4, 5, 10, 11, 100], 3, 1_000_000);
             let bits = chance.pick(&[1 << 35, 1 << 40, 1 << 63]);
-            chance.pick(&[3 * MINUS, tens * MINUS, tens * MINUS + word, bits, bits + word, u64::MAX])
+            chance.pick(&[
+                3 * MINUS,
+                tens * MINUS,
+                tens * MINUS + word,
+                bits,
+                bits + word,
+                u64::MAX,
+            ])
         }
     }
 }
