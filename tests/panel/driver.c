@@ -1,5 +1,6 @@
 /* Makes the calls that a stream of cases asks for, and writes the answers: the library's side of the comparison with the second
- * program, whose README has the formats. The one argument says what the cases are: numbers, decks or sessions. */
+ * program, whose README has the formats. The one argument says what the cases are: numbers, decks, sessions or codes. All that is lent
+ * lies between guards, and each answer says whether a call has touched one; the argument guards has that tried. */
 #include "l1.h"
 
 long read(int file, void *to, size_t most);
@@ -15,13 +16,18 @@ void _exit(int status) __attribute__((noreturn));
 static uint8_t in[HELD], out[HELD];
 static size_t in_at, in_end, out_end;
 
-static void quit(const char *why)
+static void say(const char *words)
 {
     size_t n = 0;
-    while (why[n])
+    while (words[n])
         n++;
-    if (write(2, why, n) != (long)n)
+    if (write(2, words, n) != (long)n)
         _exit(3);
+}
+
+static void quit(const char *why)
+{
+    say(why);
     _exit(2);
 }
 
@@ -90,25 +96,105 @@ static void numbers(void)
     }
 }
 
-/* Bytes that are lent to a call. */
+/* Bytes that are lent to a call, with a guard before them and one behind. */
 struct lent {
     uint8_t *at;
     size_t held, length;
+    const char *name;
 };
 
 /* What lies on the bench. Drum and state are runs of 64-bit numbers. */
-static struct lent drum, marks, deck, state, output;
+static struct lent drum = {.name = "drum"}, marks = {.name = "marks"}, deck = {.name = "deck"}, output = {.name = "output"},
+                   state = {.name = "state"};
+static struct lent *const bench[] = {&drum, &marks, &deck, &output, &state};
 
-/* Makes the length n. A pointer that is lent is never null, not even at length 0. */
+#define RUNS (sizeof bench / sizeof *bench)
+#define GUARD 64
+
+/* What the byte i of a guard holds; no two are the same. */
+static uint8_t guard(size_t i)
+{
+    return (uint8_t)(0xC3 + 29 * i);
+}
+
+/* Makes the length n, with both guards as they must be. A pointer that is lent is never null, not even at length 0, and is aligned for a
+ * number. */
 static void stretch(struct lent *l, size_t n)
 {
-    if (l->held <= n) {
-        l->held = n + 1;
-        l->at = realloc(l->at, l->held);
-        if (!l->at)
+    size_t i;
+
+    if (!l->at || l->held < n) {
+        uint8_t *all = realloc(l->at ? l->at - GUARD : 0, n + 2 * GUARD);
+        if (!all)
             quit("driver: no memory\n");
+        l->at = all + GUARD;
+        l->held = n;
     }
     l->length = n;
+    for (i = 0; i < GUARD; i++) {
+        (l->at - GUARD)[i] = guard(i);
+        (l->at + n)[i] = guard(i);
+    }
+}
+
+/* FNV-1a of 64 bits. */
+static uint64_t digest(const struct lent *l)
+{
+    uint64_t d = 0xCBF29CE484222325ul;
+    size_t i;
+    for (i = 0; i < l->length; i++)
+        d = (d ^ l->at[i]) * 0x100000001B3ul;
+    return d;
+}
+
+/* The digest of the deck as it was set: no call may write there. */
+static uint64_t deck_as_set;
+
+/* Says in words where a call has written, so often at most. */
+static int to_tell = 10;
+
+static void tell(const char *where, const char *name)
+{
+    if (to_tell == 0)
+        return;
+    to_tell--;
+    say("driver: a call has written ");
+    say(where);
+    say(name);
+    say("\n");
+}
+
+static int is_touched(const uint8_t *at)
+{
+    size_t i;
+    for (i = 0; i < GUARD; i++)
+        if (at[i] != guard(i))
+            return 1;
+    return 0;
+}
+
+/* What a call has touched that it must not: 0 for nothing, the odd number 2 r + 1 for the guard before run r of the bench, 2 r + 2 for the
+ * one behind it, and 2 RUNS + 1 for the deck itself. */
+static uint64_t touched(void)
+{
+    size_t r;
+    for (r = 0; r < RUNS; r++) {
+        if (!bench[r]->at)
+            continue;
+        if (is_touched(bench[r]->at - GUARD)) {
+            tell("before the ", bench[r]->name);
+            return 2 * r + 1;
+        }
+        if (is_touched(bench[r]->at + bench[r]->length)) {
+            tell("behind the ", bench[r]->name);
+            return 2 * r + 2;
+        }
+    }
+    if (digest(&deck) != deck_as_set) {
+        tell("into the ", deck.name);
+        return 2 * RUNS + 1;
+    }
+    return 0;
 }
 
 static void take_all(struct lent *l, size_t n)
@@ -118,15 +204,22 @@ static void take_all(struct lent *l, size_t n)
         quit("driver: the cases end within one\n");
 }
 
+static void take_deck(size_t n)
+{
+    take_all(&deck, n);
+    deck_as_set = digest(&deck);
+}
+
 static void decks(void)
 {
     uint32_t length;
 
     while (take(&length, sizeof length)) {
-        take_all(&deck, length);
+        take_deck(length);
         struct l1_place r = l1_deck(deck.at, deck.length);
         put(r.number);
         put(r.place);
+        put(touched());
     }
 }
 
@@ -174,19 +267,10 @@ static void take_sparse(void)
     }
 }
 
-/* FNV-1a of 64 bits. */
-static uint64_t digest(const struct lent *l)
-{
-    uint64_t d = 0xCBF29CE484222325ul;
-    size_t i;
-    for (i = 0; i < l->length; i++)
-        d = (d ^ l->at[i]) * 0x100000001B3ul;
-    return d;
-}
-
 static void put_bench(void)
 {
     size_t i;
+    put(touched());
     for (i = 0; i < count_of(&state); i++)
         put(numbers_of(&state)[i]);
     put(digest(&drum));
@@ -228,10 +312,10 @@ static void sessions(void)
             take_numbers(&drum);
             take_all(&marks, number());
             take_numbers(&state);
-            stretch(&deck, 0);
+            take_deck(0);
             break;
         case 2:
-            take_all(&deck, number());
+            take_deck(number());
             break;
         case 3:
             load();
@@ -247,11 +331,39 @@ static void sessions(void)
         case 7:
             take_sparse();
             take_numbers(&state);
-            stretch(&deck, 0);
+            take_deck(0);
             break;
         default:
             quit("driver: no such message\n");
         }
+}
+
+/* Changes one bit at each place that no call may touch, and sees that this is told. */
+static void guards(void)
+{
+    size_t r, i;
+
+    to_tell = 0;
+    for (r = 0; r < RUNS; r++)
+        stretch(bench[r], 8 * r);
+    memset(deck.at, '1', deck.length);
+    deck_as_set = digest(&deck);
+    if (touched() != 0)
+        quit("driver: a guard is told that was not touched\n");
+    for (r = 0; r < RUNS; r++)
+        for (i = 0; i < 2 * GUARD; i++) {
+            uint8_t *at = i < GUARD ? bench[r]->at - GUARD + i : bench[r]->at + bench[r]->length + (i - GUARD);
+            *at ^= 0x10;
+            if (touched() != 2 * r + 1 + i / GUARD)
+                quit("driver: a guard that was touched is not told\n");
+            *at ^= 0x10;
+        }
+    for (i = 0; i < deck.length; i++) {
+        deck.at[i] ^= 1;
+        if (touched() != 2 * RUNS + 1)
+            quit("driver: a deck that was changed is not told\n");
+        deck.at[i] ^= 1;
+    }
 }
 
 int main(int words, char **word)
@@ -260,10 +372,12 @@ int main(int words, char **word)
         numbers();
     else if (words == 2 && !strcmp(word[1], "decks"))
         decks();
-    else if (words == 2 && !strcmp(word[1], "sessions"))
+    else if (words == 2 && (!strcmp(word[1], "sessions") || !strcmp(word[1], "codes")))
         sessions();
+    else if (words == 2 && !strcmp(word[1], "guards"))
+        guards();
     else
-        quit("driver: say numbers, decks or sessions\n");
+        quit("driver: say numbers, decks, sessions, codes or guards\n");
     flush();
     return 0;
 }

@@ -47,6 +47,12 @@ impl Chance {
         self.below(100) < part
     }
 
+    /// One of these, or as often as each of them any from `low` to `high`.
+    pub fn pick_or(&mut self, from: &[u64], low: u64, high: u64) -> u64 {
+        let at = self.index(from.len() + 1);
+        from.get(at).copied().unwrap_or_else(|| self.between(low, high))
+    }
+
     pub fn pick<T: Copy>(&mut self, from: &[T]) -> T {
         from[self.index(from.len())]
     }

@@ -13,16 +13,20 @@ mod verdict;
 
 use std::process::ExitCode;
 
+use sessions::Stream;
+
 const USAGE: &str = "\
 usage: second numbers SEED COUNT FILE             write cases
        second decks SEED COUNT FILE
        second sessions SEED COUNT FILE
+       second codes SEED COUNT FILE
        second answer-numbers FILE OUT             answer cases with the model
        second answer-decks FILE OUT
-       second answer-sessions FILE OUT
+       second answer-sessions FILE OUT            (or answer-codes)
        second judge-numbers SEED COUNT ANSWERS    compare answers with the model's
        second judge-decks SEED COUNT ANSWERS
        second judge-sessions SEED COUNT ANSWERS
+       second judge-codes SEED COUNT ANSWERS
        second session FILE [traced] [stop] [budget=N]   load a deck on an empty drum and run it
        second speed FILE plain|traced             orders a second on a deck that goes round
        second self COUNT SEED                     all but session with the model alone";
@@ -59,7 +63,8 @@ fn write(command: &str, seed: u64, count: u64, file: &str) -> Option<bool> {
     match command {
         "numbers" => numbers::write(seed, count, file),
         "decks" => decks::write(seed, count, file),
-        "sessions" => sessions::write(seed, count, file),
+        "sessions" => sessions::write(Stream::Drawn, seed, count, file),
+        "codes" => sessions::write(Stream::Codes, seed, count, file),
         _ => return None,
     }
     // Not on the standard output, which may be the file.
@@ -71,7 +76,7 @@ fn answer(command: &str, cases: &str, out: &str) -> Option<bool> {
     match command {
         "answer-numbers" => numbers::answer_all(cases, out),
         "answer-decks" => decks::answer_all(cases, out),
-        "answer-sessions" => sessions::answer_all(cases, out),
+        "answer-sessions" | "answer-codes" => sessions::answer_all(cases, out),
         _ => return None,
     }
     Some(true)
@@ -81,7 +86,8 @@ fn judge(command: &str, seed: u64, count: u64, answers: &str) -> Option<bool> {
     Some(match command {
         "judge-numbers" => numbers::judge(seed, count, answers),
         "judge-decks" => decks::judge(seed, count, answers),
-        "judge-sessions" => sessions::judge(seed, count, answers),
+        "judge-sessions" => sessions::judge(Stream::Drawn, seed, count, answers),
+        "judge-codes" => sessions::judge(Stream::Codes, seed, count, answers),
         _ => return None,
     })
 }

@@ -6,8 +6,8 @@ use std::io::Write;
 
 use crate::model::calls::{load, run, Run};
 use crate::model::drum::CELLS;
-use crate::model::state::NUMBERS;
-use crate::model::word::Word;
+use crate::model::state::{State, NUMBERS};
+use crate::model::stop::Reason;
 
 /// Enough for every card of a session that is kept in a file.
 const ROOM: usize = 8 << 20;
@@ -39,34 +39,34 @@ pub fn session(file: &str, words: &[&str]) -> Option<bool> {
 
 fn answer(deck: &[u8], choice: Choice) -> Vec<u8> {
     let (mut cells, mut marks) = (vec![0; CELLS], vec![0; CELLS]);
-    let (mut state, mut out) = (vec![0; NUMBERS], vec![0; ROOM]);
-    let (number, place) =
-        load(&mut cells, &mut marks, deck, &mut state, choice.traced, &mut |_| {});
-    if number != 0 {
-        return refusal(number, place);
+    let (mut numbers, mut out) = (vec![0; NUMBERS], vec![0; ROOM]);
+    if let Err(refused) =
+        load(&mut cells, &mut marks, deck, &mut numbers, choice.traced, &mut |_| {})
+    {
+        return refusal(refused.reason, refused.place);
     }
     let lent = Run {
         cells: &mut cells,
         marks: &mut marks,
         deck,
         out: &mut out,
-        state: &mut state,
+        state: &mut numbers,
         budget: choice.budget,
         switch_on_stop: choice.stop,
     };
     let ended = run(lent, &mut |_| {});
-    if (10..=12).contains(&ended.number) {
-        return refusal(ended.number, ended.place);
+    if ended.reason.entry().is_some() {
+        return refusal(ended.reason, ended.place);
     }
     out.truncate(ended.written as usize);
-    let shown = Word::of_cell(ended.shown).expect("a word is shown").text();
-    let z = format!("Z{:02}{:04}{:06}{shown}", ended.number, state[0], ended.count);
-    out.extend(z.bytes());
+    let State { location, .. } = State::of_numbers(&numbers).expect("the state of a run");
+    let (number, shown) = (ended.reason.number(), ended.shown.text());
+    out.extend(format!("Z{number:02}{location:04}{:06}{shown}", ended.count).bytes());
     out
 }
 
-fn refusal(number: u64, place: u64) -> Vec<u8> {
-    format!("{number} {place}").into_bytes()
+fn refusal(reason: Reason, place: u64) -> Vec<u8> {
+    format!("{} {place}", reason.number()).into_bytes()
 }
 
 #[cfg(test)]

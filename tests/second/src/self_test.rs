@@ -6,10 +6,18 @@ use std::fs;
 use std::path::{Path, PathBuf};
 use std::process::Command;
 
+use crate::model::state::NUMBERS;
+
 const KINDS: [&str; 3] = ["numbers", "decks", "sessions"];
 
 /// Enough cases for full coverage; the spoiled answers are judged on so many.
 const FEW: u64 = 1_000;
+
+/// What follows number and place of a load, and the six numbers of a run.
+const BLOCK: usize = 1 + NUMBERS + 2;
+
+/// All codes that an order can have.
+const CODES: u64 = 10_000;
 
 /// What the last line of a judge says when all answers are right.
 const NONE: &str = " 0 differences,";
@@ -17,10 +25,10 @@ const NONE: &str = " 0 differences,";
 /// How many answers, counted in numbers of eight bytes from the start, are spoiled one by one. In
 /// sessions these are all parts of the answers to a load and to the run behind it.
 fn spoiled(kind: &str) -> usize {
-    if kind == "sessions" {
-        13 + 17
-    } else {
-        4
+    match kind {
+        "sessions" => (2 + BLOCK) + (6 + BLOCK),
+        "decks" => 6,
+        _ => 4,
     }
 }
 
@@ -39,6 +47,9 @@ pub fn all(count: u64, seed: u64) -> bool {
         fine &= test.misses_coverage(seed);
         fine &= test.agrees(FEW, seed, false) && test.sees_what_is_spoiled(seed);
     }
+    // These have the judge of the sessions, and are complete only as a whole.
+    let codes = Test { kind: "codes", folder: &folder };
+    fine &= codes.agrees(CODES, seed, true) && codes.misses_coverage(seed);
     fs::remove_dir_all(&folder).expect("the folder of the self-test can be removed");
     println!("self: {}, seed {seed}", if fine { "all as it must be" } else { "FAILED" });
     fine

@@ -6,10 +6,10 @@ use std::time::Instant;
 use crate::model::calls::{load, run, Run};
 use crate::model::drum::CELLS;
 use crate::model::state::NUMBERS;
+use crate::model::stop::Reason;
 
 const ROUNDS: usize = 5;
 const ROOM: usize = 7_700_000;
-const BUDGET: u64 = 2;
 
 /// Prints the figure; false if the deck cannot be read, loaded, or run to the end of the budget.
 pub fn orders(file: &str, mode: &str) -> Option<bool> {
@@ -22,9 +22,8 @@ pub fn orders(file: &str, mode: &str) -> Option<bool> {
     let budget = if traced { 100_000 } else { 999_999 };
     let (mut cells, mut marks) = (vec![0; CELLS], vec![0; CELLS]);
     let (mut state, mut out) = (vec![0; NUMBERS], vec![0; ROOM]);
-    let (number, _) = load(&mut cells, &mut marks, &deck, &mut state, traced, &mut |_| {});
+    let mut right = load(&mut cells, &mut marks, &deck, &mut state, traced, &mut |_| {}).is_ok();
     let mut best = f64::INFINITY;
-    let mut right = number == 0;
     for _ in 0..ROUNDS {
         let began = Instant::now();
         let lent = Run {
@@ -36,7 +35,7 @@ pub fn orders(file: &str, mode: &str) -> Option<bool> {
             budget,
             switch_on_stop: false,
         };
-        right &= run(lent, &mut |_| {}).number == BUDGET;
+        right &= run(lent, &mut |_| {}).reason == Reason::BudgetUsed;
         best = best.min(began.elapsed().as_secs_f64());
     }
     println!("{:.0}", budget as f64 / best);

@@ -3,6 +3,11 @@
 /// How many differences are told in full.
 const TOLD: u64 = 10;
 
+/// How often, in a stream of so many cases, each thing must be seen that can be reached at all.
+pub fn often_enough(count: u64) -> u64 {
+    (count / 2_000).max(1)
+}
+
 pub struct Verdict {
     differences: u64,
     /// Things that can be reached and were not.
@@ -21,11 +26,11 @@ impl Verdict {
         }
     }
 
-    /// Every case of a coverage table must have been seen.
-    pub fn require(&mut self, what: impl std::fmt::Display, seen: u64) {
-        if seen == 0 {
+    /// Every case of a coverage table must have been seen, and so often.
+    pub fn require(&mut self, what: impl std::fmt::Display, seen: u64, least: u64) {
+        if seen < least {
             self.missing += 1;
-            println!("not covered: {what}");
+            println!("not covered: {what}: {seen}, at least {least} due");
         }
     }
 

@@ -80,6 +80,16 @@ impl Cards {
         self.cards.concat().into_bytes()
     }
 
+    /// Where each card begins.
+    pub fn starts(&self) -> Vec<u64> {
+        let behind = |at: &mut u64, card: &String| {
+            let start = *at;
+            *at += card.len() as u64;
+            Some(start)
+        };
+        self.cards.iter().scan(0, behind).collect()
+    }
+
     /// An index from 0 to the number of cards.
     pub fn any_gap(&self, chance: &mut Chance) -> usize {
         chance.index(self.cards.len() + 1)

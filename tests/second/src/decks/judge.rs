@@ -2,17 +2,17 @@
 
 use std::collections::BTreeMap;
 
-use super::{answer, cases::case};
+use super::{answer, cases::case, UNHURT};
 use crate::files::Reading;
 use crate::model::card::CardFault;
-use crate::model::deck::{check, Fault};
-use crate::verdict::Verdict;
+use crate::model::deck::{check, BadDeck, Fault};
+use crate::verdict::{often_enough, Verdict};
 
 /// What is told of a deck for the coverage: good, or its fault and whether a T stands before it.
 type Seen = Option<(Fault, bool)>;
 
 fn seen(deck: &[u8]) -> Seen {
-    let (fault, place) = check(deck).err()?;
+    let BadDeck { fault, place, .. } = check(deck).err()?;
     let behind_t = fault != Fault::TooLong && check(&deck[..place]).is_ok();
     Some((fault, behind_t))
 }
@@ -51,19 +51,22 @@ pub fn judge(seed: u64, count: u64, path: &str) -> bool {
         let deck = case(seed, index);
         let due = answer(&deck);
         *covered.entry(seen(&deck)).or_default() += 1;
-        let Some([number, place]) = answers.some() else {
+        let Some([number, place, touched]) = answers.some() else {
             verdict.difference(|| format!("deck {index}: the answers end before it"));
             break;
         };
         if (number, place) != due {
             verdict.difference(|| tell(index, &deck, due, (number, place)));
         }
+        if touched != UNHURT {
+            verdict.difference(|| format!("deck {index}: touched {touched}"));
+        }
     }
     verdict.end_of_answers(answers.at_end());
     for case in reachable() {
         let times = covered.get(&case).copied().unwrap_or(0);
         println!("covered: {}: {times}", name(case));
-        verdict.require(name(case), times);
+        verdict.require(name(case), times, often_enough(count));
     }
     verdict.close("decks", count, "decks", seed)
 }
@@ -71,8 +74,12 @@ pub fn judge(seed: u64, count: u64, path: &str) -> bool {
 fn tell(index: u64, deck: &[u8], due: (u64, u64), got: (u64, u64)) -> String {
     let start = deck[..deck.len().min(500)].escape_ascii();
     let length = deck.len();
+    let fault = match check(deck) {
+        Ok(_) => "good".to_string(),
+        Err(bad) => format!("{:?} at byte {}", bad.fault, bad.byte),
+    };
     format!(
-        "deck {index} of {length} bytes: model {} {}, answer {} {}: {start}",
+        "deck {index} of {length} bytes, {fault}: model {} {}, answer {} {}: {start}",
         due.0, due.1, got.0, got.1
     )
 }

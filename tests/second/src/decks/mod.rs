@@ -12,6 +12,9 @@ use crate::model::stop::Reason;
 
 pub use judge::judge;
 
+/// What a driver says of the deck and of the bytes around it: none was touched.
+pub const UNHURT: u64 = 0;
+
 /// A deck with this fault, from the decks of chance. Over-long decks are made, not waited for.
 pub fn with_fault(fault: Fault, chance: &mut Chance) -> Vec<u8> {
     if fault == Fault::TooLong {
@@ -19,7 +22,7 @@ pub fn with_fault(fault: Fault, chance: &mut Chance) -> Vec<u8> {
     }
     loop {
         let deck = damage::damaged_somehow(chance);
-        if deck.len() < 1_000 && check(&deck).is_err_and(|(found, _)| found == fault) {
+        if deck.len() < 1_000 && check(&deck).is_err_and(|bad| bad.fault == fault) {
             return deck;
         }
     }
@@ -29,7 +32,7 @@ pub fn with_fault(fault: Fault, chance: &mut Chance) -> Vec<u8> {
 fn answer(deck: &[u8]) -> (u64, u64) {
     match check(deck) {
         Ok(_) => (0, 0),
-        Err((fault, place)) => (Reason::Deck(fault).number(), place as u64),
+        Err(bad) => (Reason::Deck(bad.fault).number(), bad.place as u64),
     }
 }
 
@@ -52,7 +55,7 @@ pub fn answer_all(cases: &str, answers: &str) {
         let length = u32::from_le_bytes([length[0], length[1], length[2], length[3]]);
         let deck = input.bytes(length as u64).expect("a whole deck");
         let (number, place) = answer(&deck);
-        out.numbers(&[number, place]);
+        out.numbers(&[number, place, UNHURT]);
     }
     out.finish();
 }

@@ -2,7 +2,7 @@
 
 use super::deck::{self, Deck};
 use super::drum::Drum;
-use super::event::Event;
+use super::event::{Before, Event, Large};
 use super::machine::Machine;
 use super::state::State;
 use super::stop::Reason;
@@ -11,16 +11,25 @@ use super::word::Word;
 /// What a run answers.
 #[derive(Clone, Copy, Debug, PartialEq, Eq)]
 pub struct Ended {
-    pub number: u64,
+    pub reason: Reason,
     pub place: u64,
     pub count: u64,
-    /// The cell number of the word shown.
-    pub shown: u64,
+    pub shown: Word,
     pub written: u64,
 }
 
 /// A refusal at entry and the place it tells.
-type Refusal = (Reason, u64);
+#[derive(Clone, Copy, Debug, PartialEq, Eq)]
+pub struct Refusal {
+    pub reason: Reason,
+    pub place: u64,
+}
+
+impl Refusal {
+    fn of(reason: Reason) -> Refusal {
+        Refusal { reason, place: 0 }
+    }
+}
 
 /// What both calls judge first: drum and marks, then the deck, then the length of the state.
 fn enter<'a>(
@@ -29,14 +38,14 @@ fn enter<'a>(
     deck: &[u8],
     state: &[u64],
 ) -> Result<(Drum<'a>, Deck, State), Refusal> {
-    let drum = Drum::lent(cells, marks).map_err(|reason| (reason, 0))?;
-    let deck = deck::check(deck).map_err(|(fault, place)| (Reason::Deck(fault), place as u64))?;
-    let state = State::of_numbers(state).ok_or((Reason::StateLength, 0))?;
+    let drum = Drum::lent(cells, marks).map_err(Refusal::of)?;
+    let deck = deck::check(deck)
+        .map_err(|bad| Refusal { reason: Reason::Deck(bad.fault), place: bad.place as u64 })?;
+    let state = State::of_numbers(state).map_err(Refusal::of)?;
     Ok((drum, deck, state))
 }
 
-/// Stores the cards before T and sets the state; of the old state nothing is judged. Number and
-/// place, both 0 for a load that was done.
+/// Stores the cards before T and sets the state; of the old state nothing is judged.
 pub fn load(
     cells: &mut [u64],
     marks: &mut [u8],
@@ -44,23 +53,26 @@ pub fn load(
     state: &mut [u64],
     traced: bool,
     witness: &mut dyn FnMut(Event),
-) -> (u64, u64) {
-    let (mut drum, deck) = match enter(cells, marks, deck, state) {
-        Ok((drum, deck, _)) => (drum, deck),
-        Err((reason, place)) => {
-            witness(Event::LoadRefused(reason));
-            return (reason.number(), place);
-        }
-    };
-    for card in &deck.before {
+) -> Result<(), Refusal> {
+    let (mut drum, deck, _) = enter(cells, marks, deck, state)
+        .inspect_err(|refusal| witness(Event::LoadRefused(refusal.reason)))?;
+    witness(Event::Loaded { traced, cell_000: before(&drum) });
+    for (_, card) in &deck.before {
         for (cell, &word) in (card.location..).zip(&card.words) {
             drum.store(cell, word);
         }
     }
     drum.store(0, Word::PLUS_ZERO);
     state.copy_from_slice(&State::loaded(&deck, traced).numbers());
-    witness(Event::Loaded { traced });
-    (0, 0)
+    Ok(())
+}
+
+fn before(drum: &Drum) -> Before {
+    match drum.word(0) {
+        None => Before::Unmarked,
+        Some(Word::PLUS_ZERO) => Before::PlusZero,
+        Some(_) => Before::OtherWord,
+    }
 }
 
 /// What is lent to a run, and what the caller chooses for it.
@@ -79,15 +91,23 @@ pub fn run(lent: Run, witness: &mut dyn FnMut(Event)) -> Ended {
     let Run { cells, marks, deck, out, state: numbers, budget, switch_on_stop } = lent;
     let (drum, deck, state) = match enter_run(cells, marks, deck, numbers, budget, witness) {
         Ok(entered) => entered,
-        Err((reason, place)) => {
-            return Ended { number: reason.number(), place, count: 0, shown: 0, written: 0 };
+        Err(Refusal { reason, place }) => {
+            return Ended { reason, place, count: 0, shown: Word::PLUS_ZERO, written: 0 };
         }
     };
     let mut machine = Machine { drum, deck, state, switch_on_stop, out, written: 0, witness };
     let (count, reason, shown) = orders(&mut machine, budget);
     let written = machine.written as u64;
     numbers.copy_from_slice(&machine.state.numbers());
-    Ended { number: reason.number(), place: 0, count, shown: shown.cell(), written }
+    if count > 1_000 {
+        (machine.witness)(Event::Large(Large::CountAbove1000));
+    }
+    if written > 65_535 {
+        let traced = machine.state.traced_mode();
+        let large = if traced { Large::TracedOutput } else { Large::PunchedOutput };
+        (machine.witness)(Event::Large(large));
+    }
+    Ended { reason, place: 0, count, shown, written }
 }
 
 /// A run asks more of its state than a load does.
@@ -99,13 +119,14 @@ fn enter_run<'a>(
     budget: u64,
     witness: &mut dyn FnMut(Event),
 ) -> Result<(Drum<'a>, Deck, State), Refusal> {
-    let (drum, deck, state) = enter(cells, marks, deck, numbers).inspect_err(|(reason, _)| {
-        witness(Event::RunRefused(*reason));
-    })?;
+    let idle = budget == 0;
+    let (drum, deck, state) = enter(cells, marks, deck, numbers)
+        .inspect_err(|&Refusal { reason, .. }| witness(Event::RunRefused { reason, idle }))?;
     let faults = state.faults(budget, &drum, &deck);
-    let Some(&first) = faults.first() else { return Ok((drum, deck, state)) };
-    witness(if faults.len() == 1 { Event::RunRefused(first) } else { Event::RunRefusedForSeveral });
-    Err((first, 0))
+    let Some(&reason) = faults.first() else { return Ok((drum, deck, state)) };
+    let alone = faults.len() == 1;
+    witness(if alone { Event::RunRefused { reason, idle } } else { Event::RunRefusedForSeveral });
+    Err(Refusal::of(reason))
 }
 
 /// The orders completed, why it ended, and the word shown.

@@ -40,6 +40,17 @@ pub enum CardFault {
     FirstOrder000,
 }
 
+/// A fault and the offset, within the card, of the byte or the field that shows it.
+#[derive(Clone, Copy, Debug, PartialEq, Eq)]
+pub struct BadCard {
+    pub fault: CardFault,
+    pub byte: usize,
+}
+
+/// Where the body and a data card's location begin.
+const BODY: usize = 1;
+const LOCATION: usize = 5;
+
 /// Locations and addresses of three digits end here.
 pub const LAST_CELL: u64 = 999;
 
@@ -58,14 +69,18 @@ fn layout(kind: u8) -> Option<Vec<Due>> {
 }
 
 /// The card at the start of `rest`, which is not empty, and its length.
-pub fn read_card(rest: &[u8]) -> Result<(Card, usize), CardFault> {
-    let layout = layout(rest[0]).ok_or(CardFault::Kind)?;
-    let length = 1 + layout.len();
-    let body = rest.get(1..length).ok_or(CardFault::CutShort)?;
-    for (&byte, due) in body.iter().zip(layout) {
+pub fn read_card(rest: &[u8]) -> Result<(Card, usize), BadCard> {
+    let layout = layout(rest[0]).ok_or(BadCard { fault: CardFault::Kind, byte: 0 })?;
+    let length = BODY + layout.len();
+    let body = rest.get(BODY..length).ok_or(BadCard { fault: CardFault::CutShort, byte: 0 })?;
+    for (byte, (&found, due)) in (BODY..).zip(body.iter().zip(layout)) {
         match due {
-            Due::Digit if !byte.is_ascii_digit() => return Err(CardFault::NotDigit),
-            Due::Sign if byte != b'+' && byte != b'-' => return Err(CardFault::NotSign),
+            Due::Digit if !found.is_ascii_digit() => {
+                return Err(BadCard { fault: CardFault::NotDigit, byte });
+            }
+            Due::Sign if found != b'+' && found != b'-' => {
+                return Err(BadCard { fault: CardFault::NotSign, byte });
+            }
             _ => {}
         }
     }
@@ -73,23 +88,23 @@ pub fn read_card(rest: &[u8]) -> Result<(Card, usize), CardFault> {
     Ok((card, length))
 }
 
-fn transfer_card(body: &[u8]) -> Result<Card, CardFault> {
+fn transfer_card(body: &[u8]) -> Result<Card, BadCard> {
     let (first_order, problem) = (value(&body[..3]), value(&body[3..]));
     if first_order == 0 {
-        return Err(CardFault::FirstOrder000);
+        return Err(BadCard { fault: CardFault::FirstOrder000, byte: BODY });
     }
     Ok(Card::Transfer { first_order, problem })
 }
 
 /// Card number and problem number may be any digits.
-fn data_card(body: &[u8]) -> Result<Card, CardFault> {
+fn data_card(body: &[u8]) -> Result<Card, BadCard> {
     let words: Vec<Word> = body[7..body.len() - 3].chunks(11).map(Word::of_text).collect();
     let (number, location) = (value(&body[..4]), value(&body[4..7]));
     if location == 0 {
-        return Err(CardFault::Location000);
+        return Err(BadCard { fault: CardFault::Location000, byte: LOCATION });
     }
     if location + words.len() as u64 - 1 > LAST_CELL {
-        return Err(CardFault::LastPast999);
+        return Err(BadCard { fault: CardFault::LastPast999, byte: LOCATION });
     }
     let problem = value(&body[body.len() - 3..]);
     Ok(Card::Data(DataCard { number, location, words, problem }))
@@ -136,7 +151,8 @@ mod tests {
 
     #[test]
     fn faults_of_one_card() {
-        let fault = |text: &str| read_card(text.as_bytes()).map(|(_, length)| length);
+        let read = |text: &str| read_card(text.as_bytes());
+        let fault = |text| read(text).map(|(_, length)| length).map_err(|bad| bad.fault);
         assert_eq!(fault("T001000"), Ok(7));
         assert_eq!(fault("T000000"), Err(CardFault::FirstOrder000));
         assert_eq!(fault("T00100"), Err(CardFault::CutShort));

@@ -1,7 +1,7 @@
 //! The lent drum and its marks.
 
-use super::stop::Reason;
-use super::word::Word;
+use super::stop::{Above, Length, Mark, Reason};
+use super::word::{Word, MINUS};
 
 pub const CELLS: usize = 1_000;
 
@@ -15,18 +15,20 @@ impl<'a> Drum<'a> {
     /// Both runs must have 1,000 entries, every mark be 0 or 1, and every marked cell hold a word.
     /// What an unmarked cell holds is not looked at.
     pub fn lent(cells: &'a mut [u64], marks: &'a mut [u8]) -> Result<Drum<'a>, Reason> {
-        if cells.len() != CELLS {
-            return Err(Reason::DrumLength);
+        if let Some(length) = Length::wrong(cells.len(), CELLS) {
+            return Err(Reason::DrumLength(length));
         }
-        if marks.len() != CELLS {
-            return Err(Reason::MarksLength);
+        if let Some(length) = Length::wrong(marks.len(), CELLS) {
+            return Err(Reason::MarksLength(length));
         }
-        if marks.iter().any(|&mark| mark > 1) {
-            return Err(Reason::MarkAboveOne);
+        if let Some(&mark) = marks.iter().find(|&&mark| mark > 1) {
+            return Err(Reason::MarkAboveOne(above_one(mark)));
         }
         let marked = |cell: &usize| marks[*cell] == 1;
-        if (0..CELLS).filter(marked).any(|cell| Word::of_cell(cells[cell]).is_none()) {
-            return Err(Reason::MarkedCellNoWord);
+        let no_word = |cell: &usize| Word::of_cell(cells[*cell]).is_none();
+        if let Some(cell) = (0..CELLS).filter(marked).find(no_word) {
+            let near = cells[cell] < 3 * MINUS;
+            return Err(Reason::MarkedCellNoWord(if near { Above::Near } else { Above::Far }));
         }
         Ok(Drum { cells, marks })
     }
@@ -48,5 +50,14 @@ impl<'a> Drum<'a> {
     pub fn store(&mut self, cell: u64, word: Word) {
         self.cells[cell as usize] = word.cell();
         self.marks[cell as usize] = 1;
+    }
+}
+
+fn above_one(mark: u8) -> Mark {
+    match mark {
+        2 => Mark::Two,
+        3 => Mark::Three,
+        _ if mark % 2 == 0 => Mark::Even,
+        _ => Mark::Odd,
     }
 }

@@ -24,14 +24,51 @@ pub enum Tracing {
     On,
 }
 
+/// What cell 000 was before a load.
+#[derive(Clone, Copy, Debug, PartialEq, Eq, PartialOrd, Ord)]
+pub enum Before {
+    Unmarked,
+    PlusZero,
+    OtherWord,
+}
+
+/// Orders and runs of an extent that chance would hardly come to.
+#[derive(Clone, Copy, Debug, PartialEq, Eq, PartialOrd, Ord)]
+pub enum Large {
+    /// A READ whose block holds its own order.
+    ReadOverItself,
+    /// Of more than 60 cells.
+    ReadOfMany,
+    /// Of more than 255 cells.
+    ReadOfHundreds,
+    /// With a first card past place 40,000.
+    ReadFar,
+    /// A PCH whose block holds its own order.
+    PchOverItself,
+    /// Of more than 255 cells.
+    PchOfHundreds,
+    /// After 9999 comes 0000 within its cards, and not before the first.
+    PchWraps,
+    /// A run that writes more than 65,535 bytes, as trace cards or as punched ones.
+    TracedOutput,
+    PunchedOutput,
+    /// A run of more than 1,000 orders.
+    CountAbove1000,
+}
+
 #[derive(Clone, Copy, Debug, PartialEq, Eq, PartialOrd, Ord)]
 pub enum Event {
     Loaded {
         traced: bool,
+        cell_000: Before,
     },
     LoadRefused(Reason),
-    /// Told only of lines that hold alone, when several of one number could hold at once.
-    RunRefused(Reason),
+    /// Told only of lines that hold alone, when several of one number could hold at once. `idle`:
+    /// with a budget of 0.
+    RunRefused {
+        reason: Reason,
+        idle: bool,
+    },
     RunRefusedForSeveral,
     /// `modified`: the loop box made the order as done another than the order as stored.
     Completed {
@@ -59,4 +96,6 @@ pub enum Event {
     BudgetUsed {
         zero: bool,
     },
+    /// Told besides.
+    Large(Large),
 }

@@ -2,7 +2,7 @@
 
 use super::deck::Deck;
 use super::drum::Drum;
-use super::event::{Event, Tracing, Way};
+use super::event::{Event, Large, Tracing, Way};
 use super::order::{code, Code, Order};
 use super::orders::{plan, Effects, View};
 use super::state::State;
@@ -47,6 +47,7 @@ impl Machine<'_> {
             Ok(effects) => {
                 let (way, stop) = (effects.way, effects.stop);
                 let modified = order.word() != stored;
+                self.tell_of_block(code, order, &effects.state);
                 self.apply(order, effects);
                 (self.witness)(Event::Completed {
                     code,
@@ -69,6 +70,31 @@ impl Machine<'_> {
         let stored = Order::of_word(self.drum.shown(self.state.location));
         if let Some(code) = code(stored) {
             (self.witness)(Event::SumRefused { code, field });
+        }
+    }
+
+    /// What is large about the block of a READ or a PCH that is about to be done.
+    fn tell_of_block(&mut self, code: Code, order: Order, after: &State) {
+        let before = self.state;
+        let over_itself = (order.b..=order.c).contains(&before.location);
+        let cells = (order.c + 1).saturating_sub(order.b);
+        let wraps = after.counter < before.counter && before.counter != 9_999;
+        let told = match code {
+            Code::Read => vec![
+                (over_itself, Large::ReadOverItself),
+                (cells > 60, Large::ReadOfMany),
+                (cells > 255, Large::ReadOfHundreds),
+                (before.reader > 40_000, Large::ReadFar),
+            ],
+            Code::Pch if !before.traced_mode() => vec![
+                (over_itself, Large::PchOverItself),
+                (cells > 255, Large::PchOfHundreds),
+                (wraps, Large::PchWraps),
+            ],
+            _ => return,
+        };
+        for (_, large) in told.into_iter().filter(|(holds, _)| *holds) {
+            (self.witness)(Event::Large(large));
         }
     }
 

@@ -91,54 +91,88 @@ pub enum Code {
     Noop,
 }
 
-/// Every built code with its O1, its A or O2 (codes 1 to 5 take any A), and its name in the
-/// newsletter's list.
-pub const BUILT: [(u64, u64, Code, &str); 36] = [
-    (1, 0, Code::OfTwo(OfTwo::Add), "ADD"),
-    (2, 0, Code::OfTwo(OfTwo::Sub), "SUB"),
-    (3, 0, Code::OfTwo(OfTwo::Mpy), "MPY"),
-    (4, 0, Code::OfTwo(OfTwo::Div), "DIV"),
-    (5, 0, Code::OfTwo(OfTwo::Ngmpy), "NGMPY"),
-    (9, 0, Code::Move000, "MOVE 000"),
-    (0, 0, Code::UncStop, "UNC STOP"),
-    (0, 200, Code::CondStop, "COND STOP"),
-    (0, 201, Code::TrSgn, "TR SGN"),
-    (0, 202, Code::TrExp, "TR EXP"),
-    (0, 203, Code::Tr, "TR"),
-    (0, 204, Code::TrSubr, "TR SUBR"),
-    (0, 100, Code::Loop([true, false, false]), "LOOP A"),
-    (0, 10, Code::Loop([false, true, false]), "LOOP B"),
-    (0, 1, Code::Loop([false, false, true]), "LOOP C"),
-    (0, 110, Code::Loop([true, true, false]), "LOOP AB"),
-    (0, 101, Code::Loop([true, false, true]), "LOOP AC"),
-    (0, 11, Code::Loop([false, true, true]), "LOOP BC"),
-    (0, 111, Code::Loop([true, true, true]), "LOOP ABC"),
-    (0, 500, Code::Change(Change::Set, Field::A), "SET A"),
-    (0, 50, Code::Change(Change::Set, Field::B), "SET B"),
-    (0, 5, Code::Change(Change::Set, Field::C), "SET C"),
-    (0, 600, Code::Change(Change::Add, Field::A), "ADD A"),
-    (0, 60, Code::Change(Change::Add, Field::B), "ADD B"),
-    (0, 6, Code::Change(Change::Add, Field::C), "ADD C"),
-    (0, 700, Code::Change(Change::Sub, Field::A), "SUB A"),
-    (0, 70, Code::Change(Change::Sub, Field::B), "SUB B"),
-    (0, 7, Code::Change(Change::Sub, Field::C), "SUB C"),
-    (0, 300, Code::OfOne(OfOne::Sqrt), "SQRT"),
-    (0, 350, Code::OfOne(OfOne::Abs), "ABS"),
-    (0, 400, Code::Read, "READ"),
-    (0, 410, Code::Pch, "PCH"),
-    (0, 450, Code::StartTr, "START TR"),
-    (0, 451, Code::StopTr, "STOP TR"),
-    (0, 452, Code::StTrEras, "ST TR ERAS"),
-    (0, 454, Code::Noop, "NOOP"),
+/// What may stand behind the first digit of a built code.
+#[derive(Clone, Copy, Debug, PartialEq, Eq)]
+pub enum Second {
+    /// An address A, and any one.
+    Any,
+    /// An O2, or an A that is part of the code.
+    Just(u64),
+}
+
+/// A code that is built, with its name in the newsletter's list.
+#[derive(Clone, Copy, Debug, PartialEq, Eq)]
+pub struct Built {
+    pub o1: u64,
+    pub second: Second,
+    pub code: Code,
+    pub name: &'static str,
+}
+
+impl Built {
+    /// The three digits behind O1, where A is to be this address if it can be.
+    pub fn a(self, address: u64) -> u64 {
+        match self.second {
+            Second::Any => address,
+            Second::Just(digits) => digits,
+        }
+    }
+
+    fn is(self, order: Order) -> bool {
+        self.o1 == order.o1 && self.a(order.a) == order.a
+    }
+}
+
+const fn any(o1: u64, code: Code, name: &'static str) -> Built {
+    Built { o1, second: Second::Any, code, name }
+}
+
+const fn just(o1: u64, digits: u64, code: Code, name: &'static str) -> Built {
+    Built { o1, second: Second::Just(digits), code, name }
+}
+
+pub const BUILT: [Built; 36] = [
+    any(1, Code::OfTwo(OfTwo::Add), "ADD"),
+    any(2, Code::OfTwo(OfTwo::Sub), "SUB"),
+    any(3, Code::OfTwo(OfTwo::Mpy), "MPY"),
+    any(4, Code::OfTwo(OfTwo::Div), "DIV"),
+    any(5, Code::OfTwo(OfTwo::Ngmpy), "NGMPY"),
+    just(9, 0, Code::Move000, "MOVE 000"),
+    just(0, 0, Code::UncStop, "UNC STOP"),
+    just(0, 200, Code::CondStop, "COND STOP"),
+    just(0, 201, Code::TrSgn, "TR SGN"),
+    just(0, 202, Code::TrExp, "TR EXP"),
+    just(0, 203, Code::Tr, "TR"),
+    just(0, 204, Code::TrSubr, "TR SUBR"),
+    just(0, 100, Code::Loop([true, false, false]), "LOOP A"),
+    just(0, 10, Code::Loop([false, true, false]), "LOOP B"),
+    just(0, 1, Code::Loop([false, false, true]), "LOOP C"),
+    just(0, 110, Code::Loop([true, true, false]), "LOOP AB"),
+    just(0, 101, Code::Loop([true, false, true]), "LOOP AC"),
+    just(0, 11, Code::Loop([false, true, true]), "LOOP BC"),
+    just(0, 111, Code::Loop([true, true, true]), "LOOP ABC"),
+    just(0, 500, Code::Change(Change::Set, Field::A), "SET A"),
+    just(0, 50, Code::Change(Change::Set, Field::B), "SET B"),
+    just(0, 5, Code::Change(Change::Set, Field::C), "SET C"),
+    just(0, 600, Code::Change(Change::Add, Field::A), "ADD A"),
+    just(0, 60, Code::Change(Change::Add, Field::B), "ADD B"),
+    just(0, 6, Code::Change(Change::Add, Field::C), "ADD C"),
+    just(0, 700, Code::Change(Change::Sub, Field::A), "SUB A"),
+    just(0, 70, Code::Change(Change::Sub, Field::B), "SUB B"),
+    just(0, 7, Code::Change(Change::Sub, Field::C), "SUB C"),
+    just(0, 300, Code::OfOne(OfOne::Sqrt), "SQRT"),
+    just(0, 350, Code::OfOne(OfOne::Abs), "ABS"),
+    just(0, 400, Code::Read, "READ"),
+    just(0, 410, Code::Pch, "PCH"),
+    just(0, 450, Code::StartTr, "START TR"),
+    just(0, 451, Code::StopTr, "STOP TR"),
+    just(0, 452, Code::StTrEras, "ST TR ERAS"),
+    just(0, 454, Code::Noop, "NOOP"),
 ];
 
 /// The code of an order as done, or none if it is not built.
 pub fn code(order: Order) -> Option<Code> {
-    let built = BUILT.iter().find(|(o1, o2, _, _)| match order.o1 {
-        1..=5 => *o1 == order.o1,
-        _ => *o1 == order.o1 && *o2 == order.a,
-    });
-    built.map(|(_, _, code, _)| *code)
+    BUILT.iter().find(|built| built.is(order)).map(|built| built.code)
 }
 
 #[cfg(test)]

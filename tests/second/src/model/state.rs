@@ -2,13 +2,24 @@
 
 use super::deck::Deck;
 use super::drum::Drum;
-use super::stop::{Reason, FIELDS};
+use super::stop::{Length, Reason, FIELDS};
 
-/// The numbers of a state.
+/// The names of a state's numbers, in the order in which they are handed over.
+pub const NAMES: [&str; NUMBERS] = [
+    "location",
+    "box A",
+    "box B",
+    "box C",
+    "card counter",
+    "problem number",
+    "reader",
+    "mode",
+    "tracing",
+];
 pub const NUMBERS: usize = 9;
 
 /// The state as it is handed over, so each number may still be anything.
-#[derive(Clone, Copy, Debug, PartialEq, Eq)]
+#[derive(Clone, Copy, Debug, Default, PartialEq, Eq)]
 pub struct State {
     pub location: u64,
     /// The loop box: the counts A, B, C.
@@ -23,11 +34,15 @@ pub struct State {
 }
 
 impl State {
-    pub fn of_numbers(numbers: &[u64]) -> Option<State> {
+    /// Every other length is refused.
+    pub fn of_numbers(numbers: &[u64]) -> Result<State, Reason> {
+        if let Some(length) = Length::wrong(numbers.len(), NUMBERS) {
+            return Err(Reason::StateLength(length));
+        }
         let &[location, a, b, c, counter, problem, reader, mode, tracing] = numbers else {
-            return None;
+            unreachable!("a state of {NUMBERS} numbers");
         };
-        Some(State { location, counts: [a, b, c], counter, problem, reader, mode, tracing })
+        Ok(State { location, counts: [a, b, c], counter, problem, reader, mode, tracing })
     }
 
     pub fn numbers(&self) -> [u64; NUMBERS] {
@@ -67,8 +82,10 @@ impl State {
             (self.tracing > 1, Reason::TracingAbove1),
             (self.mode == 0 && self.tracing == 1, Reason::TracingInPlainMode),
             (drum.word(0).is_none(), Reason::Cell000Unmarked),
-            (!deck.reader_may_stand_at(self.reader), Reason::ReaderAstray),
         ];
+        if let Some(astray) = deck.astray(self.reader) {
+            lines.push((true, Reason::ReaderAstray(astray)));
+        }
         for (field, count) in FIELDS.into_iter().zip(self.counts) {
             lines.push((count > 999, Reason::BoxAbove999(field)));
         }

@@ -18,6 +18,72 @@ pub const FIELDS: [Field; 3] = [Field::A, Field::B, Field::C];
 pub enum Turn {
     First,
     Later,
+    /// Behind cards for more than 60 cells.
+    Late,
+}
+
+impl Turn {
+    pub fn behind(cells: u64) -> Turn {
+        match cells {
+            0 => Turn::First,
+            1..=60 => Turn::Later,
+            _ => Turn::Late,
+        }
+    }
+}
+
+/// How the length of something lent is wrong.
+#[derive(Clone, Copy, Debug, PartialEq, Eq, PartialOrd, Ord)]
+pub enum Length {
+    Short,
+    Long,
+    /// Twice as long as is due, or three times, and so on.
+    Multiple,
+}
+
+impl Length {
+    /// None for the length that is due.
+    pub fn wrong(length: usize, due: usize) -> Option<Length> {
+        match length {
+            _ if length == due => None,
+            _ if length < due => Some(Length::Short),
+            _ if length % due == 0 => Some(Length::Multiple),
+            _ => Some(Length::Long),
+        }
+    }
+}
+
+/// A mark above 1.
+#[derive(Clone, Copy, Debug, PartialEq, Eq, PartialOrd, Ord)]
+pub enum Mark {
+    Two,
+    Three,
+    Even,
+    Odd,
+}
+
+/// A cell's number above the largest word: below 30,000,000,000, or not.
+#[derive(Clone, Copy, Debug, PartialEq, Eq, PartialOrd, Ord)]
+pub enum Above {
+    Near,
+    Far,
+}
+
+/// Where a reader stands that may not stand there. `first` is the first place of the deck.
+#[derive(Clone, Copy, Debug, PartialEq, Eq, PartialOrd, Ord)]
+pub enum Astray {
+    AtT { first: bool },
+    AtCardBeforeT { first: bool },
+    Within,
+    PastEnd,
+}
+
+/// What a call judges before it begins, in this order.
+#[derive(Clone, Copy, Debug, PartialEq, Eq, PartialOrd, Ord)]
+pub enum Entry {
+    Drum,
+    Deck,
+    State,
 }
 
 /// One line, or part of a line, of the table of stop numbers.
@@ -26,12 +92,12 @@ pub enum Reason {
     UncStop,
     CondStop,
     BudgetUsed,
-    DrumLength,
-    MarksLength,
-    MarkAboveOne,
-    MarkedCellNoWord,
+    DrumLength(Length),
+    MarksLength(Length),
+    MarkAboveOne(Mark),
+    MarkedCellNoWord(Above),
     Deck(Fault),
-    StateLength,
+    StateLength(Length),
     BudgetAbove999999,
     LocationAbove1000,
     BoxAbove999(Field),
@@ -41,7 +107,7 @@ pub enum Reason {
     TracingAbove1,
     TracingInPlainMode,
     Cell000Unmarked,
-    ReaderAstray,
+    ReaderAstray(Astray),
     Location000,
     LocationPast999,
     SumAbove999(Field),
@@ -72,11 +138,11 @@ impl Reason {
             UncStop => 0,
             CondStop => 1,
             BudgetUsed => 2,
-            DrumLength | MarksLength | MarkAboveOne | MarkedCellNoWord => 10,
+            DrumLength(_) | MarksLength(_) | MarkAboveOne(_) | MarkedCellNoWord(_) => 10,
             Deck(_) => 11,
-            StateLength | BudgetAbove999999 | LocationAbove1000 | BoxAbove999(_) => 12,
+            StateLength(_) | BudgetAbove999999 | LocationAbove1000 | BoxAbove999(_) => 12,
             CounterAbove9999 | ProblemAbove999 | ModeAbove1 | TracingAbove1 => 12,
-            TracingInPlainMode | Cell000Unmarked | ReaderAstray => 12,
+            TracingInPlainMode | Cell000Unmarked | ReaderAstray(_) => 12,
             Location000 | LocationPast999 | SumAbove999(_) => 20,
             BlockFrom000 | BlockBackward | ChangeOf000 | SubroutineAt000 => 20,
             OrderUnmarked | Unmarked(_) | BlockUnmarked => 21,
@@ -88,6 +154,21 @@ impl Reason {
             Range(_) => 27,
             CardElsewhere(_) | CardPastBlock(_) => 28,
             NoCard(_) => 29,
+        }
+    }
+
+    /// What was being judged, for a call that was not begun; none for a run that was.
+    pub fn entry(self) -> Option<Entry> {
+        use Reason::*;
+        match self {
+            DrumLength(_) | MarksLength(_) | MarkAboveOne(_) | MarkedCellNoWord(_) => {
+                Some(Entry::Drum)
+            }
+            Deck(_) => Some(Entry::Deck),
+            StateLength(_) | BudgetAbove999999 | LocationAbove1000 | BoxAbove999(_)
+            | CounterAbove9999 | ProblemAbove999 | ModeAbove1 | TracingAbove1
+            | TracingInPlainMode | Cell000Unmarked | ReaderAstray(_) => Some(Entry::State),
+            _ => None,
         }
     }
 }

@@ -3,7 +3,7 @@
 use super::cases::{case, Case};
 use super::{answer, NAMES};
 use crate::files::Reading;
-use crate::verdict::Verdict;
+use crate::verdict::{often_enough, Verdict};
 
 /// The stop numbers that each operation can answer, 0 being the answer with a word.
 const REACHABLE: [&[u64]; 7] = [
@@ -39,7 +39,7 @@ pub fn judge(seed: u64, count: u64, path: &str) -> bool {
         println!("covered: {} {}", NAMES[operation], counts.collect::<Vec<_>>().join(", "));
         for &number in numbers.iter() {
             let what = format!("{} answering {number:02}", NAMES[operation]);
-            verdict.require(what, seen[operation][number as usize]);
+            verdict.require(what, seen[operation][number as usize], often_enough(count));
         }
     }
     verdict.close("numbers", count, "operations", seed)

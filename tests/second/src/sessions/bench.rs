@@ -2,8 +2,10 @@
 
 use super::digest;
 use super::message::Message;
-use crate::model::calls::{load, run, Ended, Run};
+use crate::decks::UNHURT;
+use crate::model::calls::{load, run, Ended, Refusal, Run};
 use crate::model::event::Event;
+use crate::model::state::NAMES;
 
 /// What every byte of the output holds before a run.
 const UNTOUCHED: u8 = 0xA5;
@@ -18,7 +20,7 @@ pub struct Bench {
 
 /// What a call gave.
 pub enum Outcome {
-    Load { number: u64, place: u64 },
+    Load(Result<(), Refusal>),
     Run { ended: Ended, out: Vec<u8> },
 }
 
@@ -41,8 +43,7 @@ impl Bench {
             }
             Message::Load { traced } => {
                 let Bench { cells, marks, deck, state } = self;
-                let (number, place) = load(cells, marks, deck, state, *traced != 0, witness);
-                Some(Outcome::Load { number, place })
+                Some(Outcome::Load(load(cells, marks, deck, state, *traced != 0, witness)))
             }
             Message::Run { room, budget, stop } => {
                 Some(self.run(*room, *budget, *stop != 0, witness))
@@ -68,12 +69,14 @@ impl Bench {
     /// The numbers that the driver writes after a call. The drum's digest is the last but one.
     pub fn answer(&self, outcome: &Outcome) -> Vec<u64> {
         let mut answer = match outcome {
-            Outcome::Load { number, place } => vec![*number, *place],
+            Outcome::Load(Ok(())) => vec![0, 0],
+            Outcome::Load(Err(Refusal { reason, place })) => vec![reason.number(), *place],
             Outcome::Run { ended, out } => {
-                let Ended { number, place, count, shown, written } = *ended;
-                vec![number, place, count, shown, written, digest::of_bytes(out)]
+                let Ended { reason, place, count, shown, written } = *ended;
+                vec![reason.number(), place, count, shown.cell(), written, digest::of_bytes(out)]
             }
         };
+        answer.push(UNHURT);
         answer.extend(&self.state);
         answer.push(digest::of_numbers(&self.cells));
         answer.push(digest::of_bytes(&self.marks));
@@ -84,21 +87,10 @@ impl Bench {
 /// The name of one number of an answer, for telling a difference.
 pub fn label(is_run: bool, index: usize, length: usize) -> String {
     let heads: &[&str] = if is_run {
-        &["number", "place", "count", "shown", "written", "digest of the output"]
+        &["number", "place", "count", "shown", "written", "digest of the output", "touched"]
     } else {
-        &["number", "place"]
+        &["number", "place", "touched"]
     };
-    const STATE: [&str; 9] = [
-        "location",
-        "box A",
-        "box B",
-        "box C",
-        "card counter",
-        "problem number",
-        "reader",
-        "mode",
-        "tracing",
-    ];
     if let Some(head) = heads.get(index) {
         return head.to_string();
     }
@@ -107,7 +99,7 @@ pub fn label(is_run: bool, index: usize, length: usize) -> String {
         2 => "digest of the drum".to_string(),
         _ => {
             let at = index - heads.len();
-            STATE.get(at).map_or(format!("state {at}"), |name| name.to_string())
+            NAMES.get(at).map_or(format!("state {at}"), |name| name.to_string())
         }
     }
 }

@@ -2,10 +2,12 @@
 
 use std::collections::BTreeMap;
 
+use super::draw::codes;
 use super::reach;
 use crate::model::event::Event;
-use crate::model::order::{Code, BUILT};
-use crate::verdict::Verdict;
+use crate::model::order::{Built, Code, Second, BUILT};
+use crate::model::stop::Reason;
+use crate::verdict::{often_enough, Verdict};
 
 #[derive(Default)]
 pub struct Coverage {
@@ -27,11 +29,13 @@ impl Coverage {
         self.events.iter().filter(|(event, _)| wanted(**event)).map(|(_, times)| times).sum()
     }
 
-    /// Prints all that was covered and requires all that can be.
-    pub fn tell(&self, verdict: &mut Verdict) {
-        for (o1, o2, code, name) in BUILT {
-            let operation =
-                if (1..=5).contains(&o1) { format!("{o1}") } else { format!("{o1} {o2:03}") };
+    /// Prints all that was covered.
+    pub fn tell(&self) {
+        for Built { o1, second, code, name } in BUILT {
+            let operation = match second {
+                Second::Any => format!("{o1}"),
+                Second::Just(digits) => format!("{o1} {digits:03}"),
+            };
             println!("covered: {operation} {name}: {}", self.of_code(code));
         }
         let completed = self.times(|event| matches!(event, Event::Completed { .. }));
@@ -39,9 +43,34 @@ impl Coverage {
         for (number, times) in &self.numbers {
             println!("covered: answer {number:02}: {times}");
         }
-        for event in reach::of_orders().into_iter().chain(reach::of_calls()) {
-            verdict.require(format!("{event:?}"), self.events.get(&event).copied().unwrap_or(0));
+        for large in reach::LARGE {
+            println!("covered: {large:?}: {}", self.times(|event| event == Event::Large(large)));
         }
+    }
+
+    /// Requires all that sessions drawn by chance can come to.
+    pub fn require_all(&self, count: u64, verdict: &mut Verdict) {
+        for event in reach::all() {
+            let seen = self.events.get(&event).copied().unwrap_or(0);
+            verdict.require(format!("{event:?}"), seen, often_enough(count));
+        }
+    }
+
+    /// Requires every built code, and as many orders with codes that are not as there are such.
+    pub fn require_codes(&self, verdict: &mut Verdict) {
+        for built in BUILT {
+            let seen = self.times(|event| match event {
+                Event::Completed { code, .. } | Event::OrderRefused { code, .. } => {
+                    code == built.code
+                }
+                _ => false,
+            });
+            let codes = if built.second == Second::Any { 1_000 } else { 1 };
+            verdict.require(built.name, seen, codes * codes::RUNS);
+        }
+        let not_built =
+            self.times(|event| matches!(event, Event::Refused { reason: Reason::NotBuilt, .. }));
+        verdict.require("codes that are not built", not_built, codes::NOT_BUILT * codes::RUNS);
     }
 
     /// Completions in plain mode, traced mode with tracing off, and with a trace card; refusals by
@@ -74,12 +103,11 @@ impl Coverage {
 /// An event that the list of reachable ones lacks shows that the list is wrong.
 #[cfg(test)]
 pub fn unlisted(coverage: &Coverage) -> Vec<Event> {
-    let listed: Vec<Event> = reach::of_orders().into_iter().chain(reach::of_calls()).collect();
+    let listed = reach::all();
     coverage.events.keys().filter(|event| !listed.contains(event)).copied().collect()
 }
 
 #[cfg(test)]
 pub fn missing(coverage: &Coverage) -> Vec<Event> {
-    let listed = reach::of_orders().into_iter().chain(reach::of_calls());
-    listed.filter(|event| !coverage.events.contains_key(event)).collect()
+    reach::all().into_iter().filter(|event| !coverage.events.contains_key(event)).collect()
 }

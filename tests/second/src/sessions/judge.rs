@@ -2,9 +2,8 @@
 
 use super::bench::{label, Bench, Outcome};
 use super::coverage::Coverage;
-use super::draw::session;
 use super::message::Message;
-use super::twin_of;
+use super::{twin_of, Stream};
 use crate::files::Reading;
 use crate::verdict::Verdict;
 
@@ -26,13 +25,13 @@ impl Answered {
 }
 
 /// Whether every answer is the model's, twins agree, and everything that can be reached was.
-pub fn judge(seed: u64, count: u64, path: &str) -> bool {
+pub fn judge(stream: Stream, seed: u64, count: u64, path: &str) -> bool {
     let mut answers = Reading::open(path);
     let mut verdict = Verdict::new();
     let mut coverage = Coverage::default();
     let (mut twins, mut calls) = (0u64, 0u64);
     for index in 0..count {
-        let first = session(seed, index);
+        let first = stream.session(seed, index);
         let second = twin_of(&first, seed, index);
         let both = answered(&first, &mut answers, &mut coverage).and_then(|one| {
             Some((one, answered(&second, &mut answers, &mut Coverage::default())?))
@@ -49,9 +48,13 @@ pub fn judge(seed: u64, count: u64, path: &str) -> bool {
         calls += one.len() as u64;
     }
     verdict.end_of_answers(answers.at_end());
-    coverage.tell(&mut verdict);
+    coverage.tell();
     println!("covered: {calls} calls, {twins} twins");
-    verdict.close("sessions", count, "sessions", seed)
+    match stream {
+        Stream::Drawn => coverage.require_all(count, &mut verdict),
+        Stream::Codes => coverage.require_codes(&mut verdict),
+    }
+    verdict.close(stream.name(), count, "sessions", seed)
 }
 
 /// Does a session on the model and reads as much for each call as the model answers.

@@ -23,11 +23,37 @@ fn twin_of(session: &[Message], seed: u64, index: u64) -> Vec<Message> {
     twin::twin(session, &mut Chance::of_case(seed, TWIN, index))
 }
 
+/// Where sessions come from.
+#[derive(Clone, Copy)]
+pub enum Stream {
+    /// All of chance, without end.
+    Drawn,
+    /// One for each first four digits of an order.
+    Codes,
+}
+
+impl Stream {
+    pub fn name(self) -> &'static str {
+        match self {
+            Stream::Drawn => "sessions",
+            Stream::Codes => "codes",
+        }
+    }
+
+    /// The session of an index, ended but not yet with its twin.
+    fn session(self, seed: u64, index: u64) -> Vec<Message> {
+        match self {
+            Stream::Drawn => draw::session(seed, index),
+            Stream::Codes => draw::codes::session(seed, index),
+        }
+    }
+}
+
 /// Every session is followed by its twin.
-pub fn write(seed: u64, count: u64, path: &str) {
+pub fn write(stream: Stream, seed: u64, count: u64, path: &str) {
     let mut out = Writing::create(path);
     for index in 0..count {
-        let session = draw::session(seed, index);
+        let session = stream.session(seed, index);
         let twin = twin_of(&session, seed, index);
         for message in session.iter().chain(&twin) {
             message.write(&mut out);

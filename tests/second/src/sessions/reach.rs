@@ -3,10 +3,10 @@
 use crate::model::arithmetic::OutOfRange;
 use crate::model::card::CardFault;
 use crate::model::deck::Fault;
-use crate::model::event::{Event, Tracing, Way};
+use crate::model::event::{Before, Event, Large, Tracing, Way};
 use crate::model::operation::{OfOne, OfTwo};
-use crate::model::order::{Code, BUILT};
-use crate::model::stop::{Field, Reason, Turn, FIELDS};
+use crate::model::order::{Code, Second, BUILT};
+use crate::model::stop::{Above, Astray, Field, Length, Mark, Reason, Turn, FIELDS};
 
 pub const TRACINGS: [Tracing; 3] = [Tracing::Plain, Tracing::Off, Tracing::On];
 
@@ -47,7 +47,7 @@ fn refusals(code: Code) -> Vec<Reason> {
         Code::Pch => vec![BlockFrom000, BlockBackward, BlockUnmarked, NoRoomForPunch],
         Code::Read => {
             let mut reasons = vec![BlockFrom000, BlockBackward];
-            for turn in [Turn::First, Turn::Later] {
+            for turn in [Turn::First, Turn::Later, Turn::Late] {
                 reasons.extend([CardElsewhere(turn), CardPastBlock(turn), NoCard(turn)]);
             }
             reasons
@@ -60,7 +60,7 @@ fn refusals(code: Code) -> Vec<Reason> {
 pub fn of_orders() -> Vec<Event> {
     let mut events = Vec::new();
     for tracing in TRACINGS {
-        for (_, _, code, _) in BUILT {
+        for code in BUILT.map(|built| built.code) {
             for (way, stopped) in ways(code) {
                 for modified in [false, true] {
                     events.push(Event::Completed { code, way, stopped, tracing, modified });
@@ -94,10 +94,10 @@ pub fn of_orders() -> Vec<Event> {
 /// Every code and every address; but no count lifts an O2 or A of 000 above 999.
 fn sums() -> Vec<Event> {
     let mut events = Vec::new();
-    for (o1, o2, code, _) in BUILT {
+    for built in BUILT {
         for field in FIELDS {
-            if field != Field::A || o2 != 0 || (1..=5).contains(&o1) {
-                events.push(Event::SumRefused { code, field });
+            if field != Field::A || built.second != Second::Just(0) {
+                events.push(Event::SumRefused { code: built.code, field });
             }
         }
     }
@@ -117,39 +117,81 @@ pub const FAULTS: [Fault; 10] = [
     Fault::Card(CardFault::FirstOrder000),
 ];
 
-/// The lines of 12 that a state of nine numbers, a budget and a mark can break.
-pub const LINES_OF_12: [Reason; 12] = [
-    Reason::BudgetAbove999999,
-    Reason::LocationAbove1000,
-    Reason::BoxAbove999(Field::A),
-    Reason::BoxAbove999(Field::B),
-    Reason::BoxAbove999(Field::C),
-    Reason::CounterAbove9999,
-    Reason::ProblemAbove999,
-    Reason::ModeAbove1,
-    Reason::TracingAbove1,
-    Reason::TracingInPlainMode,
-    Reason::Cell000Unmarked,
-    Reason::ReaderAstray,
+const LENGTHS: [Length; 3] = [Length::Short, Length::Long, Length::Multiple];
+const MARKS: [Mark; 4] = [Mark::Two, Mark::Three, Mark::Even, Mark::Odd];
+const ASTRAY: [Astray; 6] = [
+    Astray::AtT { first: true },
+    Astray::AtT { first: false },
+    Astray::AtCardBeforeT { first: true },
+    Astray::AtCardBeforeT { first: false },
+    Astray::Within,
+    Astray::PastEnd,
 ];
+
+/// The lines of 12 that a state of good length, a budget and a mark can break.
+pub fn lines_of_12() -> Vec<Reason> {
+    let mut lines = vec![
+        Reason::BudgetAbove999999,
+        Reason::LocationAbove1000,
+        Reason::CounterAbove9999,
+        Reason::ProblemAbove999,
+        Reason::ModeAbove1,
+        Reason::TracingAbove1,
+        Reason::TracingInPlainMode,
+        Reason::Cell000Unmarked,
+    ];
+    lines.extend(FIELDS.map(Reason::BoxAbove999));
+    lines.extend(ASTRAY.map(Reason::ReaderAstray));
+    lines
+}
+
+/// What a load and a run refuse alike.
+fn of_both() -> Vec<Reason> {
+    let mut both = Vec::new();
+    both.extend(LENGTHS.map(Reason::DrumLength));
+    both.extend(LENGTHS.map(Reason::MarksLength));
+    both.extend(MARKS.map(Reason::MarkAboveOne));
+    both.extend([Above::Near, Above::Far].map(Reason::MarkedCellNoWord));
+    both.extend(FAULTS.map(Reason::Deck));
+    both.extend(LENGTHS.map(Reason::StateLength));
+    both
+}
 
 /// What a call as a whole can come to.
 pub fn of_calls() -> Vec<Event> {
-    let mut both = vec![
-        Reason::DrumLength,
-        Reason::MarksLength,
-        Reason::MarkAboveOne,
-        Reason::MarkedCellNoWord,
-    ];
-    both.extend(FAULTS.map(Reason::Deck));
-    both.push(Reason::StateLength);
-    let mut events: Vec<Event> = both.iter().map(|&reason| Event::LoadRefused(reason)).collect();
-    events.extend(both.iter().map(|&reason| Event::RunRefused(reason)));
-    events.extend(LINES_OF_12.map(Event::RunRefused));
+    let mut events: Vec<Event> = of_both().into_iter().map(Event::LoadRefused).collect();
+    for idle in [false, true] {
+        for reason in of_both().into_iter().chain(lines_of_12()) {
+            if !idle || reason != Reason::BudgetAbove999999 {
+                events.push(Event::RunRefused { reason, idle });
+            }
+        }
+    }
     events.push(Event::RunRefusedForSeveral);
-    events.extend([Event::Loaded { traced: false }, Event::Loaded { traced: true }]);
-    events.extend([Event::BudgetUsed { zero: false }, Event::BudgetUsed { zero: true }]);
+    for cell_000 in [Before::Unmarked, Before::PlusZero, Before::OtherWord] {
+        events.extend([false, true].map(|traced| Event::Loaded { traced, cell_000 }));
+    }
+    events.extend([false, true].map(|zero| Event::BudgetUsed { zero }));
     events
+}
+
+/// What is too large for chance to come to.
+pub const LARGE: [Large; 10] = [
+    Large::ReadOverItself,
+    Large::ReadOfMany,
+    Large::ReadOfHundreds,
+    Large::ReadFar,
+    Large::PchOverItself,
+    Large::PchOfHundreds,
+    Large::PchWraps,
+    Large::TracedOutput,
+    Large::PunchedOutput,
+    Large::CountAbove1000,
+];
+
+pub fn all() -> Vec<Event> {
+    let large = LARGE.map(Event::Large);
+    of_orders().into_iter().chain(of_calls()).chain(large).collect()
 }
 
 #[cfg(test)]
@@ -158,7 +200,7 @@ mod tests {
 
     #[test]
     fn nothing_is_listed_twice() {
-        let all: Vec<Event> = of_orders().into_iter().chain(of_calls()).collect();
+        let all = all();
         let different: std::collections::BTreeSet<&Event> = all.iter().collect();
         assert_eq!(different.len(), all.len());
     }

@@ -58,7 +58,7 @@ pub fn read(order: Order, view: &View) -> Result<Effects, Reason> {
     let mut reader = view.state.reader as usize;
     let mut stores = Vec::new();
     while next != order.c + 1 {
-        let turn = if next == order.b { Turn::First } else { Turn::Later };
+        let turn = Turn::behind(next - order.b);
         let (card, behind) = view.deck.card_at(reader).ok_or(Reason::NoCard(turn))?;
         if card.location != next {
             return Err(Reason::CardElsewhere(turn));

@@ -1,20 +1,21 @@
 //! 10, 11, 12, load, and what a run asks of its state.
 
-use super::Job;
+use super::{Job, START};
+use crate::model::state::{State, NUMBERS};
 
 const DECK: &str = "10000500+0000000001000T10100710000001+0000000000000";
 
 fn number_of_run(change: impl FnOnce(&mut Job)) -> u64 {
     let mut job = Job::new().with_deck(DECK).with(101, &["+0454000000"]);
-    job.state[6] = 29;
+    job.state.reader = 29;
     change(&mut job);
-    let before = (job.cells.clone(), job.marks.clone(), job.state.clone());
+    let before = (job.cells.clone(), job.marks.clone(), job.state);
     let ended = job.run(1);
-    if ended.number >= 10 {
-        assert_eq!((ended.count, ended.shown, ended.written), (0, 0, 0));
-        assert_eq!(before, (job.cells.clone(), job.marks.clone(), job.state.clone()));
+    if ended.reason.number() >= 10 {
+        assert_eq!((ended.count, ended.shown.cell(), ended.written), (0, 0, 0));
+        assert_eq!(before, (job.cells.clone(), job.marks.clone(), job.state));
     }
-    ended.number
+    ended.reason.number()
 }
 
 #[test]
@@ -29,73 +30,71 @@ fn lines_of_10() {
 
 #[test]
 fn lines_of_12() {
-    let broken = [
-        (0, 1_001),
-        (1, 1_000),
-        (2, 1_000),
-        (3, 1_000),
-        (4, 10_000),
-        (5, 1_000),
-        (7, 2),
-        (8, 2),
-        (8, 1),
-    ];
-    for (at, value) in broken {
-        assert_eq!(number_of_run(|job| job.state[at] = value), 12, "state {at}");
-    }
+    let number = |broken: fn(&mut State)| number_of_run(|job| broken(&mut job.state));
+    assert_eq!(number(|state| state.location = 1_001), 12);
+    assert_eq!(number(|state| state.counts[0] = 1_000), 12);
+    assert_eq!(number(|state| state.counts[1] = 1_000), 12);
+    assert_eq!(number(|state| state.counts[2] = 1_000), 12);
+    assert_eq!(number(|state| state.counter = 10_000), 12);
+    assert_eq!(number(|state| state.problem = 1_000), 12);
+    assert_eq!(number(|state| state.mode = 2), 12);
+    assert_eq!(number(|state| state.tracing = 2), 12);
+    assert_eq!(number(|state| state.tracing = 1), 12);
     assert_eq!(number_of_run(|job| job.marks[0] = 0), 12);
-    assert_eq!(number_of_run(|job| job.state.push(0)), 12);
-    assert_eq!(number_of_run(|job| job.state.truncate(8)), 12);
+    for numbers in [0, 8, 10, 18] {
+        assert_eq!(number_of_run(|job| job.numbers = numbers), 12);
+    }
     for (reader, number) in
         [(0, 12), (22, 12), (28, 12), (29, 2), (30, 12), (51, 2), (52, 12), (u64::MAX, 12)]
     {
-        assert_eq!(number_of_run(|job| job.state[6] = reader), number, "reader {reader}");
+        assert_eq!(number_of_run(|job| job.state.reader = reader), number, "reader {reader}");
     }
 }
 
 #[test]
 fn budget_and_location() {
     let mut job = Job::new();
-    assert_eq!(job.run(1_000_000).number, 12);
+    assert_eq!(job.run(1_000_000).reason.number(), 12);
     assert_eq!(job.refused(0), (2, 0));
-    job.state[0] = 1_000;
+    job.state.location = 1_000;
     assert_eq!(job.refused(0), (2, 0));
     assert_eq!(job.refused(1), (20, 0));
-    job.state[0] = 1_001;
-    assert_eq!(job.run(0).number, 12);
-    job.state[0] = 0;
+    job.state.location = 1_001;
+    assert_eq!(job.run(0).reason.number(), 12);
+    job.state.location = 0;
     assert_eq!(job.refused(1), (20, 0));
-    job.state[0] = 999;
+    job.state.location = 999;
     assert_eq!(job.refused(1), (21, 0));
 }
 
 #[test]
 fn ten_comes_before_eleven_before_twelve() {
     let mut job = Job::new().with_deck("T101007?");
-    job.state[0] = 5_000;
-    assert_eq!((job.run(1).number, job.run(1).place), (11, 7));
+    job.state.location = 5_000;
+    assert_eq!((job.run(1).reason.number(), job.run(1).place), (11, 7));
     job.marks[3] = 9;
-    assert_eq!((job.run(1).number, job.run(1).place), (10, 0));
+    assert_eq!((job.run(1).reason.number(), job.run(1).place), (10, 0));
 }
 
 #[test]
 fn load_judges_no_state_and_gives_it_back_when_it_refuses() {
     let mut job = Job::new().with_deck("T101007T101007");
-    job.state = vec![u64::MAX; 9];
-    assert_eq!(job.load(true), (11, 7));
-    assert_eq!(job.state, vec![u64::MAX; 9]);
+    let strange = State::of_numbers(&[u64::MAX; NUMBERS]).expect("a state");
+    job.state = strange;
+    assert_eq!((job.load(true), job.state), ((11, 7), strange));
     job.deck = DECK.to_string();
     job.cells[0] = 20_000_000_000;
     assert_eq!(job.load(true), (10, 0));
     job.marks[0] = 0;
     assert_eq!(job.load(true), (0, 0));
-    assert_eq!(job.state, [101, 0, 0, 0, 0, 7, 29, 1, 1]);
+    assert_eq!(job.state, State { reader: 29, mode: 1, tracing: 1, ..START });
     assert_eq!(
         (job.word(0), job.word(500)),
         ("+0000000000".to_string(), "+0000000001".to_string())
     );
-    job.state = vec![7; 10];
-    assert_eq!((job.load(false), job.state), ((12, 0), vec![7; 10]));
+    let before = job.state;
+    job.numbers = 10;
+    assert_eq!((job.load(false), job.state), ((12, 0), before));
 }
 
 #[test]

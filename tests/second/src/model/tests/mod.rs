@@ -5,7 +5,8 @@ mod orders;
 mod paper;
 mod tracing;
 
-use super::calls::{load, run, Ended, Run};
+use super::calls::{load, run, Ended, Refusal, Run};
+use super::state::{State, NUMBERS};
 use super::word::Word;
 
 /// A drum, its marks, a deck and a state, with room for a few cards.
@@ -13,9 +14,15 @@ struct Job {
     cells: Vec<u64>,
     marks: Vec<u8>,
     deck: String,
-    state: Vec<u64>,
+    state: State,
+    /// How many numbers are lent as the state.
+    numbers: usize,
     out: Vec<u8>,
 }
+
+/// What a job's state is at first.
+const START: State =
+    State { location: 101, counts: [0; 3], counter: 0, problem: 7, reader: 7, mode: 0, tracing: 0 };
 
 /// What no rule may read.
 const STRAY: u64 = u64::MAX;
@@ -27,7 +34,8 @@ impl Job {
             cells: vec![STRAY; 1_000],
             marks: vec![0; 1_000],
             deck: "T101007".to_string(),
-            state: vec![101, 0, 0, 0, 0, 7, 7, 0, 0],
+            state: START,
+            numbers: NUMBERS,
             out: vec![b'.'; 400],
         };
         job.put(0, "+0000000000");
@@ -36,7 +44,7 @@ impl Job {
 
     fn traced() -> Job {
         let mut job = Job::new();
-        (job.state[7], job.state[8]) = (1, 1);
+        job.state = State { mode: 1, tracing: 1, ..START };
         job
     }
 
@@ -54,7 +62,7 @@ impl Job {
     }
 
     fn with_counts(mut self, counts: [u64; 3]) -> Job {
-        self.state[1..4].copy_from_slice(&counts);
+        self.state.counts = counts;
         self
     }
 
@@ -68,9 +76,26 @@ impl Job {
         self
     }
 
+    /// The state as it is lent, and as a call has left it.
+    fn lent(&self) -> Vec<u64> {
+        let mut numbers = self.state.numbers().to_vec();
+        numbers.resize(self.numbers, 7);
+        numbers
+    }
+
+    fn took_back(&mut self, numbers: Vec<u64>) {
+        match State::of_numbers(&numbers) {
+            Ok(state) => self.state = state,
+            Err(_) => assert_eq!(numbers, self.lent(), "a state of another length was changed"),
+        }
+    }
+
+    /// Number and place.
     fn load(&mut self, traced: bool) -> (u64, u64) {
-        let deck = self.deck.as_bytes();
-        load(&mut self.cells, &mut self.marks, deck, &mut self.state, traced, &mut |_| {})
+        let (deck, mut state) = (self.deck.as_bytes(), self.lent());
+        let done = load(&mut self.cells, &mut self.marks, deck, &mut state, traced, &mut |_| {});
+        self.took_back(state);
+        done.map_or_else(|Refusal { reason, place }| (reason.number(), place), |()| (0, 0))
     }
 
     fn run(&mut self, budget: u64) -> Ended {
@@ -78,23 +103,26 @@ impl Job {
     }
 
     fn run_with(&mut self, budget: u64, switch_on_stop: bool) -> Ended {
+        let mut state = self.lent();
         let lent = Run {
             cells: &mut self.cells,
             marks: &mut self.marks,
             deck: self.deck.as_bytes(),
             out: &mut self.out,
-            state: &mut self.state,
+            state: &mut state,
             budget,
             switch_on_stop,
         };
-        run(lent, &mut |_| {})
+        let ended = run(lent, &mut |_| {});
+        self.took_back(state);
+        ended
     }
 
     /// A run's number and count, with all that a refused order must leave alone checked.
     fn refused(&mut self, budget: u64) -> (u64, u64) {
         let ended = self.run(budget);
-        assert_eq!((ended.place, ended.shown), (0, 0));
-        (ended.number, ended.count)
+        assert_eq!((ended.place, ended.shown), (0, Word::PLUS_ZERO));
+        (ended.reason.number(), ended.count)
     }
 
     fn word(&self, cell: usize) -> String {
@@ -103,7 +131,12 @@ impl Job {
     }
 
     fn location(&self) -> u64 {
-        self.state[0]
+        self.state.location
+    }
+
+    /// The location and the loop box.
+    fn at(&self) -> (u64, [u64; 3]) {
+        (self.state.location, self.state.counts)
     }
 
     fn written(&self, ended: Ended) -> &str {

@@ -4,10 +4,10 @@ use super::Job;
 
 /// Number and count of a run of one order at 101.
 fn one(job: &mut Job) -> (u64, u64) {
-    let before = (job.cells.clone(), job.marks.clone(), job.state.clone());
+    let before = (job.cells.clone(), job.marks.clone(), job.state);
     let answer = job.refused(1);
     if answer.0 >= 10 {
-        assert_eq!(before, (job.cells.clone(), job.marks.clone(), job.state.clone()));
+        assert_eq!(before, (job.cells.clone(), job.marks.clone(), job.state));
     }
     answer
 }
@@ -32,7 +32,7 @@ fn the_sum_makes_the_code() {
     // -0 000 000 000 with the box at (1, 500, 400) is LOOP C with B 500 and C 400.
     let mut job = Job::new().with(101, &["-0000000000"]).with_counts([1, 500, 400]);
     assert_eq!(one(&mut job), (2, 1));
-    assert_eq!(job.state[..4], [400, 1, 500, 401]);
+    assert_eq!(job.at(), (400, [1, 500, 401]));
     let mut job = Job::new().with(101, &["-9000200300"]).with_counts([1, 0, 0]);
     assert_eq!(one(&mut job), (23, 0));
     let mut job = Job::new().with(101, &["-0454000999"]).with_counts([0, 0, 1]);
@@ -43,13 +43,13 @@ fn the_sum_makes_the_code() {
 fn loop_orders_compare_the_largest_named_count() {
     let mut job = Job::new().with(101, &["+0110007050"]).with_counts([2, 5, 900]);
     assert_eq!(one(&mut job), (2, 1));
-    assert_eq!(job.state[..4], [50, 3, 6, 900]);
+    assert_eq!(job.at(), (50, [3, 6, 900]));
     let mut job = Job::new().with(101, &["+0110006050"]).with_counts([2, 5, 900]);
     assert_eq!(one(&mut job), (2, 1));
-    assert_eq!(job.state[..4], [102, 0, 0, 0]);
+    assert_eq!(job.at(), (102, [0, 0, 0]));
     let mut job = Job::new().with(101, &["+0001999050"]).with_counts([0, 0, 999]);
     assert_eq!(one(&mut job), (2, 1));
-    assert_eq!(job.state[..4], [102, 0, 0, 0]);
+    assert_eq!(job.at(), (102, [0, 0, 0]));
 }
 
 #[test]
@@ -57,7 +57,7 @@ fn transfers_to_nowhere_are_done_and_then_refused() {
     let mut job = Job::new().with(101, &["+0203000000"]);
     assert_eq!((job.refused(2), job.location()), ((20, 1), 0));
     let mut job = Job::new().with(999, &["+0454000000"]);
-    job.state[0] = 999;
+    job.state.location = 999;
     assert_eq!((job.refused(2), job.location()), ((20, 1), 1_000));
 }
 
@@ -104,18 +104,21 @@ fn stops() {
     let mut job = Job::new().with(101, &["+0200300500"]).with(300, &["-0000000000"]);
     let ended = job.run_with(1, true);
     assert_eq!(
-        (ended.number, ended.count, ended.shown, job.location()),
+        (ended.reason.number(), ended.count, ended.shown.cell(), job.location()),
         (1, 1, 10_000_000_000, 500)
     );
     let mut job = Job::new().with(101, &["+0200300500"]);
     let ended = job.run_with(1, true);
-    assert_eq!((ended.number, ended.count, ended.shown, job.location()), (1, 1, 0, 500));
+    assert_eq!(
+        (ended.reason.number(), ended.count, ended.shown.cell(), job.location()),
+        (1, 1, 0, 500)
+    );
     let mut job = Job::new().with(101, &["+0200300500"]);
     assert_eq!((one(&mut job), job.location()), ((2, 1), 500));
     let mut job = Job::new().with(101, &["+0000000000"]).with(0, &["-1234567890"]);
     let ended = job.run(5);
     assert_eq!(
-        (ended.number, ended.count, ended.shown, job.location()),
+        (ended.reason.number(), ended.count, ended.shown.cell(), job.location()),
         (0, 1, 11_234_567_890, 101)
     );
 }
@@ -126,7 +129,7 @@ fn pch_numbers_its_cards_and_fits_all_or_none() {
         ["+0000000001", "-0000000002", "+0000000003", "+0000000004", "+0000000005", "+0000000006"];
     let job = |room| {
         let mut job = Job::new().with(101, &["+0410200205"]).with(200, &words).with_room(room);
-        job.state[4] = 9_998;
+        job.state.counter = 9_998;
         job
     };
     assert_eq!(one(&mut job(87)), (22, 0));
@@ -134,7 +137,7 @@ fn pch_numbers_its_cards_and_fits_all_or_none() {
     let ended = good.run(1);
     let due =
         "59999200+0000000001-0000000002+0000000003+0000000004+000000000500710000205+0000000006007";
-    assert_eq!((ended.number, good.written(ended), good.state[4]), (2, due, 0));
+    assert_eq!((ended.reason.number(), good.written(ended), good.state.counter), (2, due, 0));
     assert_eq!(one(&mut Job::new().with(101, &["+0410000205"])), (20, 0));
     assert_eq!(one(&mut Job::new().with(101, &["+0410200199"])), (20, 0));
     assert_eq!(one(&mut Job::new().with(101, &["+0410200200"]).with_room(0)), (21, 0));
@@ -148,12 +151,12 @@ fn read_takes_all_cards_or_none() {
         (one(&mut job), job)
     };
     let (answer, job) = run("+0400300302", cards);
-    assert_eq!((answer, job.state[6]), ((2, 1), 62));
+    assert_eq!((answer, job.state.reader), ((2, 1), 62));
     assert_eq!(
         (job.word(301), job.word(302)),
         ("-0000000002".to_string(), "+0000000003".to_string())
     );
-    assert_eq!(run("+0400300301", cards).1.state[6], 40);
+    assert_eq!(run("+0400300301", cards).1.state.reader, 40);
     assert_eq!(run("+0400300300", cards).0, (28, 0));
     assert_eq!(run("+0400301302", cards).0, (28, 0));
     assert_eq!(run("+0400300303", cards).0, (29, 0));

@@ -19,7 +19,7 @@ fn block_length(chance: &mut Chance) -> u64 {
 }
 
 /// The bytes that cards of five words, the last one with the rest, take for so many cells.
-fn punched_length(cells: u64) -> u64 {
+pub fn punched_length(cells: u64) -> u64 {
     cells.div_ceil(5) * 11 + cells * 11
 }
 
@@ -79,19 +79,19 @@ pub fn read(reason: Option<Reason>, draft: &mut Draft, chance: &mut Chance) -> A
             ..bad_block(Code::Read, reason, chance)
         };
     }
-    let later = matches!(
-        reason,
-        Some(
-            Reason::CardElsewhere(Turn::Later)
-                | Reason::CardPastBlock(Turn::Later)
-                | Reason::NoCard(Turn::Later)
-        )
-    );
+    let turn = match reason {
+        Some(Reason::CardElsewhere(turn) | Reason::CardPastBlock(turn) | Reason::NoCard(turn)) => {
+            turn
+        }
+        _ => Turn::First,
+    };
+    let later = turn != Turn::First;
     let past = matches!(reason, Some(Reason::CardPastBlock(_)));
-    let length = match (past, later) {
-        (true, false) => chance.between(1, 4),
-        (_, true) => chance.between(2, 9),
-        _ => block_length(chance),
+    let length = match turn {
+        Turn::First if past => chance.between(1, 4),
+        Turn::First => block_length(chance),
+        Turn::Later => chance.between(2, 9),
+        Turn::Late => chance.between(66, 80),
     };
     // Cells behind the block are kept for a card that passes its end.
     let start = draft.free(length + if past { 5 } else { 0 }, chance);
@@ -102,7 +102,11 @@ pub fn read(reason: Option<Reason>, draft: &mut Draft, chance: &mut Chance) -> A
     if past && !later {
         cards = vec![DataCard { location: start, ..any_card(chance, length) }];
     }
-    let bad = if later { 1 + chance.index(cards.len() - 1) } else { 0 };
+    let bad = match turn {
+        Turn::First => 0,
+        Turn::Later => 1 + chance.index(cards.len() - 1),
+        Turn::Late => late(&cards, start, chance),
+    };
     match reason {
         Some(Reason::CardElsewhere(_)) => cards[bad].location = elsewhere(&cards[bad], chance),
         Some(Reason::CardPastBlock(_)) => {
@@ -123,7 +127,7 @@ pub fn read(reason: Option<Reason>, draft: &mut Draft, chance: &mut Chance) -> A
 
 /// Cards of chance that fill the block. If a later one is to fail, there are at least two, and the
 /// last has fewer than five words.
-fn filling(start: u64, length: u64, several: bool, chance: &mut Chance) -> Vec<DataCard> {
+pub fn filling(start: u64, length: u64, several: bool, chance: &mut Chance) -> Vec<DataCard> {
     let mut cards = Vec::new();
     let mut at = start;
     while at < start + length {
@@ -137,6 +141,13 @@ fn filling(start: u64, length: u64, several: bool, chance: &mut Chance) -> Vec<D
         at += words;
     }
     cards
+}
+
+/// The index of a card that more than 60 cells lie before.
+fn late(cards: &[DataCard], start: u64, chance: &mut Chance) -> usize {
+    let first = cards.iter().position(|card| card.location - start > 60);
+    let first = first.expect("a block of 66 cells or more ends with such a card");
+    first + chance.index(cards.len() - first)
 }
 
 /// Another location for the card, often the next one.

@@ -4,8 +4,10 @@
 use std::collections::BTreeMap;
 
 use crate::chance::Chance;
+use crate::decks::build::any_word;
 use crate::model::calls::Ended;
 use crate::model::order::Order;
+use crate::model::state::State;
 use crate::model::word::Word;
 use crate::sessions::bench::{Bench, Outcome};
 use crate::sessions::message::{Begin, Cells, Marks, Message};
@@ -39,7 +41,8 @@ impl Draft {
             messages: Vec::new(),
             bench: Bench::default(),
         };
-        draft.put(0, Word::PLUS_ZERO);
+        let word = if chance.percent(60) { Word::PLUS_ZERO } else { any_word(chance) };
+        draft.put(0, word);
         draft
     }
 
@@ -56,19 +59,28 @@ impl Draft {
 
     /// The start of so many cells in a row that nothing else uses, all still unmarked.
     pub fn free(&mut self, count: u64, chance: &mut Chance) -> u64 {
-        for _ in 0..1_000 {
+        for _ in 0..100 {
             let start = match chance.below(12) {
                 0 => 1,
                 1 => 1_000 - count,
                 _ => chance.between(1, 1_000 - count),
             };
-            let run = start as usize..(start + count) as usize;
-            if self.taken[run.clone()].iter().all(|taken| !taken) {
-                self.taken[run].fill(true);
+            if self.take(start, count) {
                 return start;
             }
         }
-        panic!("a session asks for too many cells");
+        let first = (1..=1_000 - count).find(|&start| self.take(start, count));
+        first.expect("a session asks for no more cells than there are")
+    }
+
+    /// Whether so many cells from a start on were still free, and are now taken.
+    fn take(&mut self, start: u64, count: u64) -> bool {
+        let run = &mut self.taken[start as usize..(start + count) as usize];
+        let free = run.iter().all(|taken| !taken);
+        if free {
+            run.fill(true);
+        }
+        free
     }
 
     pub fn free_word(&mut self, word: Word, chance: &mut Chance) -> u64 {
@@ -78,7 +90,7 @@ impl Draft {
     }
 
     /// Ends the layout. A few drums are sent in full.
-    pub fn begin(&mut self, state: Vec<u64>, chance: &mut Chance) {
+    pub fn begin(&mut self, state: State, chance: &mut Chance) {
         let within = |map: &BTreeMap<u64, u64>, length: u64| {
             map.range(..length).map(|(&i, &v)| (i, v)).collect()
         };
@@ -89,7 +101,7 @@ impl Draft {
         if chance.one_in(200) {
             (cells, marks) = (Cells::Full(cells.all()), Marks::Full(marks.all()));
         }
-        self.send(Message::Begin(Begin { cells, marks, state }));
+        self.send(Message::Begin(Begin { cells, marks, state: state.numbers().to_vec() }));
     }
 
     fn send(&mut self, message: Message) -> Option<Outcome> {
@@ -102,20 +114,21 @@ impl Draft {
         self.send(Message::Deck(deck.into()));
     }
 
-    pub fn set_state(&mut self, state: impl Into<Vec<u64>>) {
-        self.send(Message::State(state.into()));
+    pub fn set_state(&mut self, state: State) {
+        self.set_numbers(state.numbers().to_vec());
     }
 
-    pub fn state(&self) -> &[u64] {
-        &self.bench.state
+    /// A state of any length.
+    pub fn set_numbers(&mut self, numbers: Vec<u64>) {
+        self.send(Message::State(numbers));
     }
 
-    /// The number that the load answers.
-    pub fn load(&mut self, traced: u64) -> u64 {
-        match self.send(Message::Load { traced }) {
-            Some(Outcome::Load { number, .. }) => number,
-            _ => unreachable!("a load is answered"),
-        }
+    pub fn state(&self) -> State {
+        State::of_numbers(&self.bench.state).expect("a state that a run has left")
+    }
+
+    pub fn load(&mut self, traced: u64) {
+        self.send(Message::Load { traced });
     }
 
     pub fn run(&mut self, room: u64, budget: u64, stop: u64) -> Ended {

@@ -3,44 +3,58 @@
 
 use super::draft::Draft;
 use super::parts::built;
+use super::wrong::{above, above_one, astray, no_word, wrong_length};
 use crate::chance::Chance;
 use crate::decks::build::{any_word, Cards};
 use crate::decks::with_fault;
-use crate::model::deck::{check, Fault};
-use crate::model::event::Event;
+use crate::model::deck::check;
+use crate::model::drum::CELLS;
+use crate::model::event::{Before, Event};
 use crate::model::order::Code;
-use crate::model::stop::{Field, Reason};
+use crate::model::state::{State, NUMBERS};
+use crate::model::stop::{Entry, Reason, FIELDS};
+use crate::model::word::Word;
 use crate::sessions::message::Message;
-use crate::sessions::reach::{FAULTS, LINES_OF_12};
+use crate::sessions::reach::{lines_of_12, FAULTS};
 
 /// What the calls of a session are given.
+#[derive(Clone)]
 struct Given {
     deck: Vec<u8>,
-    state: Vec<u64>,
+    state: State,
+    /// How many numbers are lent as the state.
+    numbers: usize,
     budget: u64,
+}
+
+impl Given {
+    /// The state's numbers, and from the first one again where more are lent than it has.
+    fn lent(&self) -> Vec<u64> {
+        self.state.numbers().into_iter().cycle().take(self.numbers).collect()
+    }
 }
 
 pub fn session(event: Event, chance: &mut Chance) -> Vec<Message> {
     let mut draft = Draft::new(chance);
     let good = furnish(&mut draft, chance);
-    let mut bad = Given { deck: good.deck.clone(), state: good.state.clone(), budget: good.budget };
+    let mut bad = good.clone();
     match event {
-        Event::LoadRefused(reason) | Event::RunRefused(reason) => {
-            break_line(reason, &mut draft, &mut bad, chance)
-        }
-        Event::RunRefusedForSeveral => {
-            let (first, step) = (chance.index(12), chance.pick(&[1, 5, 7]));
-            for turn in 0..chance.index(3) + 2 {
-                break_line(LINES_OF_12[(first + turn * step) % 12], &mut draft, &mut bad, chance);
+        Event::LoadRefused(reason) => break_line(reason, &mut draft, &mut bad, chance),
+        Event::RunRefused { reason, idle } => {
+            if idle {
+                bad.budget = 0;
             }
+            break_line(reason, &mut draft, &mut bad, chance);
         }
+        Event::RunRefusedForSeveral => break_several(&mut draft, &mut bad, chance),
+        Event::Loaded { cell_000, .. } => set_cell_000(cell_000, &mut draft, chance),
         Event::BudgetUsed { zero: true } => bad.budget = 0,
         _ => {}
     }
     if chance.one_in(4) {
         break_more(event, &mut draft, &mut bad, chance);
     }
-    draft.begin(good.state.clone(), chance);
+    draft.begin(good.state, chance);
     draft.deck(good.deck.clone());
     if chance.percent(50) {
         draft.run(200, chance.below(3), 0);
@@ -48,7 +62,7 @@ pub fn session(event: Event, chance: &mut Chance) -> Vec<Message> {
     call(event, &bad, &mut draft, chance);
     // With good things again, nothing tells that the call was refused.
     draft.deck(good.deck.clone());
-    draft.set_state(good.state.clone());
+    draft.set_state(good.state);
     draft.run(200, good.budget, 0);
     if chance.percent(30) {
         draft.load(chance.below(2));
@@ -59,12 +73,14 @@ pub fn session(event: Event, chance: &mut Chance) -> Vec<Message> {
 
 fn call(event: Event, bad: &Given, draft: &mut Draft, chance: &mut Chance) {
     draft.deck(bad.deck.clone());
-    draft.set_state(bad.state.clone());
+    draft.set_numbers(bad.lent());
     match event {
         Event::LoadRefused(_) => draft.load(chance.below(2)),
-        Event::Loaded { traced } => draft.load(traced as u64),
-        _ => draft.run(chance.pick(&[0, 77, 200]), bad.budget, chance.below(2)).number,
-    };
+        Event::Loaded { traced, .. } => draft.load(traced as u64),
+        _ => {
+            draft.run(chance.pick(&[0, 77, 200]), bad.budget, chance.below(2));
+        }
+    }
 }
 
 /// A short program, a deck that loads it too, and a state that runs it.
@@ -83,40 +99,66 @@ fn furnish(draft: &mut Draft, chance: &mut Chance) -> Given {
     let starts = checked.after.iter().map(|(start, _)| *start as u64);
     let readers: Vec<u64> = starts.chain([deck.len() as u64]).collect();
     let mode = chance.below(2);
-    let state = vec![
-        chance.pick(&[start, start, start, 0, 1_000]),
-        chance.pick(&[0, 999]),
-        chance.pick(&[0, 999]),
-        chance.pick(&[0, 999]),
-        chance.pick(&[0, 9_999]),
-        chance.pick(&[0, 999]),
-        chance.pick(&readers),
+    let state = State {
+        location: chance.pick(&[start, start, start, 0, 1_000]),
+        counts: [0; 3].map(|_| chance.pick(&[0, 999])),
+        counter: chance.pick(&[0, 9_999]),
+        problem: chance.pick(&[0, 999]),
+        reader: chance.pick(&readers),
         mode,
-        mode * chance.below(2),
-    ];
-    Given { deck, state, budget: chance.pick(&[1, 2, 3, 3]) }
+        tracing: mode * chance.below(2),
+    };
+    Given { deck, state, numbers: NUMBERS, budget: chance.pick(&[1, 2, 3, 3]) }
+}
+
+fn set_cell_000(wanted: Before, draft: &mut Draft, chance: &mut Chance) {
+    match wanted {
+        Before::Unmarked => {
+            draft.marks.remove(&0);
+            draft.values.insert(0, chance.pick_or(&[0, 1_000_000_050], 0, u64::MAX - 1));
+        }
+        Before::PlusZero => draft.put(0, Word::PLUS_ZERO),
+        Before::OtherWord => {
+            let Word { minus, digits } = any_word(chance);
+            draft.put(0, Word { minus: minus || digits == 0, digits });
+        }
+    }
 }
 
 /// Further faults, of later lines, which must not be told.
 fn break_more(event: Event, draft: &mut Draft, bad: &mut Given, chance: &mut Chance) {
-    let number = match event {
-        Event::LoadRefused(reason) | Event::RunRefused(reason) => reason.number(),
-        _ => return,
-    };
-    if number < 11 {
+    let (Event::LoadRefused(reason) | Event::RunRefused { reason, .. }) = event else { return };
+    if reason.entry() < Some(Entry::Deck) {
         let fault = chance.pick(&FAULTS[1..]);
         break_line(Reason::Deck(fault), draft, bad, chance);
     }
-    if number < 12 {
-        let line = chance.pick(&LINES_OF_12);
-        let line = if chance.one_in(3) { Reason::StateLength } else { line };
-        break_line(line, draft, bad, chance);
+    if reason.entry() < Some(Entry::State) {
+        let mut lines = lines_of_12();
+        lines.retain(|&line| line != Reason::BudgetAbove999999 || bad.budget > 0);
+        // A reader astray has a deck of its own, and no fault of deck or drum may be mended.
+        lines.retain(|&line| !matches!(line, Reason::ReaderAstray(_) | Reason::Cell000Unmarked));
+        break_line(chance.pick(&lines), draft, bad, chance);
+        bad.state.reader = chance.pick(&[bad.state.reader, 1, u64::MAX]);
+        bad.numbers = chance.pick(&[NUMBERS, NUMBERS, NUMBERS + 1]);
     }
 }
 
-/// Just above a bound, or far above it.
-fn above(bound: u64, chance: &mut Chance) -> u64 {
-    chance.pick(&[bound + 1, bound + 1, bound + (1 << 32), u64::MAX])
+/// One line of 12 that no other can mend, and then some others.
+fn break_several(draft: &mut Draft, bad: &mut Given, chance: &mut Chance) {
+    let first = match chance.below(6) {
+        0 => Reason::BudgetAbove999999,
+        1 => Reason::LocationAbove1000,
+        2 => Reason::CounterAbove9999,
+        3 => Reason::ProblemAbove999,
+        4 => Reason::Cell000Unmarked,
+        _ => Reason::BoxAbove999(chance.pick(&FIELDS)),
+    };
+    break_line(first, draft, bad, chance);
+    let mut others = lines_of_12();
+    others.retain(|&line| line != first);
+    for _ in 0..chance.between(1, 3) {
+        break_line(chance.pick(&others), draft, bad, chance);
+    }
 }
 
 /// Any cell of the drum, its first and last more often than others.
@@ -131,40 +173,38 @@ fn any_cell(chance: &mut Chance) -> u64 {
 fn break_line(reason: Reason, draft: &mut Draft, bad: &mut Given, chance: &mut Chance) {
     let state = &mut bad.state;
     match reason {
-        Reason::DrumLength => draft.cells_length = chance.pick(&[0, 1, 999, 1_001, 1_500]),
-        Reason::MarksLength => draft.marks_length = chance.pick(&[0, 1, 999, 1_001, 1_500]),
-        Reason::MarkAboveOne => {
+        Reason::DrumLength(length) => {
+            draft.cells_length = wrong_length(length, CELLS as u64, chance);
+            if chance.one_in(3) {
+                draft.marks_length = draft.cells_length;
+            }
+        }
+        Reason::MarksLength(length) => {
+            draft.marks_length = wrong_length(length, CELLS as u64, chance)
+        }
+        Reason::MarkAboveOne(mark) => {
             let cell = any_cell(chance);
-            draft.marks.insert(cell, chance.pick(&[2, 3, 128, 255, 254]));
+            draft.marks.insert(cell, above_one(mark, chance));
             draft.values.entry(cell).or_insert(chance.next());
         }
-        Reason::MarkedCellNoWord => {
+        Reason::MarkedCellNoWord(by) => {
             let cell = any_cell(chance);
             draft.put(cell, any_word(chance));
-            let value = chance.pick(&[20_000_000_000, 20_000_000_001, 1 << 63, u64::MAX]);
-            draft.values.insert(cell, value);
-        }
-        // Over-long decks make long files, so they are rare here.
-        Reason::Deck(Fault::TooLong) if !chance.one_in(12) => {
-            bad.deck = with_fault(Fault::NoT, chance)
+            draft.values.insert(cell, no_word(by, chance));
         }
         Reason::Deck(fault) => bad.deck = with_fault(fault, chance),
-        Reason::StateLength => {
-            let length = chance.pick(&[0, 1, 8, 10, 20]);
-            state.resize(length, 0);
+        Reason::StateLength(length) => {
+            bad.numbers = wrong_length(length, NUMBERS as u64, chance) as usize
         }
-        _ if state.len() != 9 => {}
         Reason::BudgetAbove999999 => bad.budget = above(999_999, chance),
-        Reason::LocationAbove1000 => state[0] = above(1_000, chance),
-        Reason::BoxAbove999(Field::A) => state[1] = above(999, chance),
-        Reason::BoxAbove999(Field::B) => state[2] = above(999, chance),
-        Reason::BoxAbove999(Field::C) => state[3] = above(999, chance),
-        Reason::CounterAbove9999 => state[4] = above(9_999, chance),
-        Reason::ProblemAbove999 => state[5] = above(999, chance),
-        Reason::ReaderAstray => state[6] = astray(&bad.deck, chance),
-        Reason::ModeAbove1 => state[7] = above(1, chance),
-        Reason::TracingAbove1 => state[8] = above(1, chance),
-        Reason::TracingInPlainMode => (state[7], state[8]) = (0, 1),
+        Reason::LocationAbove1000 => state.location = above(1_000, chance),
+        Reason::BoxAbove999(field) => state.counts[field as usize] = above(999, chance),
+        Reason::CounterAbove9999 => state.counter = above(9_999, chance),
+        Reason::ProblemAbove999 => state.problem = above(999, chance),
+        Reason::ReaderAstray(place) => (bad.deck, state.reader) = astray(place, chance),
+        Reason::ModeAbove1 => state.mode = above(1, chance),
+        Reason::TracingAbove1 => state.tracing = above(1, chance),
+        Reason::TracingInPlainMode => (state.mode, state.tracing) = (0, 1),
         Reason::Cell000Unmarked => {
             draft.marks.remove(&0);
         }
@@ -172,19 +212,24 @@ fn break_line(reason: Reason, draft: &mut Draft, bad: &mut Given, chance: &mut C
     }
 }
 
-/// T's own start, starts before it, places within cards and behind the deck.
-fn astray(deck: &[u8], chance: &mut Chance) -> u64 {
-    let length = deck.len() as u64;
-    loop {
-        let place = match chance.below(6) {
-            0 => 0,
-            1 => length + 1,
-            2 => u64::MAX,
-            3 => length + (1 << 32),
-            _ => chance.below(length + 1),
-        };
-        if check(deck).map_or(true, |good| !good.reader_may_stand_at(place)) {
-            return place;
+#[cfg(test)]
+mod tests {
+    use super::*;
+    use crate::sessions::bench::Bench;
+    use crate::sessions::reach::of_calls;
+
+    #[test]
+    fn every_aim_is_reached() {
+        for seed in 0..20 {
+            let always = Event::BudgetUsed { zero: false };
+            for event in of_calls().into_iter().filter(|event| *event != always) {
+                let mut seen = false;
+                let mut bench = Bench::default();
+                for message in session(event, &mut Chance::new(seed)) {
+                    bench.feed(&message, &mut |found| seen |= found == event);
+                }
+                assert!(seen, "{event:?} with {seed}");
+            }
         }
     }
 }

@@ -2,9 +2,11 @@
 
 mod aim;
 mod block;
+pub mod codes;
 mod draft;
 mod early;
 mod hostile;
+mod large;
 mod layout;
 mod named;
 mod parts;
@@ -13,6 +15,7 @@ mod program;
 mod soup;
 mod steer;
 mod text;
+mod wrong;
 
 use super::message::Message;
 use super::reach;
@@ -27,11 +30,18 @@ const PROBED: u64 = 9;
 const HOSTILE: u64 = 3;
 const PLANNED: u64 = 4;
 
+/// One session of so many is a large one.
+const LARGE: u64 = 100;
+
 /// The session of an index, ended but not yet with its twin.
 pub fn session(seed: u64, index: u64) -> Vec<Message> {
     let chance = &mut Chance::of_case(seed, KIND, index);
     if let Some(session) = named::session(index, chance) {
         return session;
+    }
+    if index % LARGE == LARGE - 1 {
+        let at = (index / LARGE) as usize % reach::LARGE.len();
+        return large::session(reach::LARGE[at], chance);
     }
     let (round, turn) = (index / CYCLE, index % CYCLE);
     if turn < PROBED {

@@ -5,6 +5,7 @@ use crate::chance::Chance;
 use crate::decks::build::longest;
 use crate::decks::with_fault;
 use crate::model::deck::Fault;
+use crate::model::state::{State, NUMBERS};
 use crate::model::word::Word;
 use crate::sessions::message::Message;
 
@@ -38,7 +39,7 @@ fn put(draft: &mut Draft, location: u64, words: &[&str]) {
 }
 
 fn paper(traced: u64, draft: &mut Draft, chance: &mut Chance) {
-    draft.begin(vec![0; 9], chance);
+    draft.begin(State::default(), chance);
     draft.deck(PAPER);
     draft.load(traced);
     for budget in [0, 1, 1, 999_999, 999_999] {
@@ -50,28 +51,34 @@ fn paper(traced: u64, draft: &mut Draft, chance: &mut Chance) {
 fn the_largest_budget(draft: &mut Draft, chance: &mut Chance) {
     put(draft, 101, &["+0203000101"]);
     put(draft, 200, &["-0454000000", "+0111999200", "+0203000200"]);
-    draft.begin(vec![101, 0, 0, 0, 0, 0, 7, 0, 0], chance);
+    draft.begin(State { location: 101, reader: 7, ..State::default() }, chance);
     draft.deck("T101000");
     draft.run(0, 999_999, 0);
-    draft.set_state([200, 0, 0, 0, 0, 0, 7, 0, 0]);
+    draft.set_state(State { location: 200, reader: 7, ..State::default() });
     draft.run(0, 50_000, 0);
-    draft.set_state([101, 0, 0, 0, 0, 0, 7, 1, 1]);
+    draft.set_state(State { location: 101, reader: 7, mode: 1, tracing: 1, ..State::default() });
     draft.run(40_000, 999_999, 0);
 }
 
+/// READ takes the last cards of a deck that is nearly as long as can be.
 fn the_longest_deck(draft: &mut Draft, chance: &mut Chance) {
-    draft.begin(vec![u64::MAX; 9], chance);
+    put(draft, 500, &["+0400001010", "+0000005000"]);
+    draft.begin(strange(u64::MAX), chance);
+    let cards = "50000001+0000000001-0000000002+0000000003+0000000004+9999999999000".repeat(991);
+    let last = "50000006+0000000005+0000000006-0000000007+0000000008+0000000009000";
+    draft.deck(format!("T500000{cards}{last}"));
+    draft.load(0);
+    let loaded = draft.state();
+    draft.set_state(State { reader: loaded.reader + 66 * 990, ..loaded });
+    draft.run(0, 5, 0);
     draft.deck(longest(chance).bytes());
     draft.load(0);
     draft.run(1_000, 100, 0);
-    let cards: String = (0..992)
-        .map(|_| "50000001+0000000001-0000000002+0000000003+0000000004+9999999999000")
-        .collect();
-    draft.deck(format!("T500000{cards}"));
-    draft.load(0);
-    let state = draft.state().to_vec();
-    draft.set_state([500, 0, 0, 0, 0, 0, state[6] + 66 * 991, 0, 0]);
-    draft.run(0, 5, 0);
+}
+
+/// A state whose numbers are all the same.
+fn strange(number: u64) -> State {
+    State::of_numbers(&[number; NUMBERS]).expect("a state")
 }
 
 fn all_cells_punched(draft: &mut Draft, chance: &mut Chance) {
@@ -79,7 +86,10 @@ fn all_cells_punched(draft: &mut Draft, chance: &mut Chance) {
         draft.put(cell, Word { minus: cell % 3 == 0, digits: cell * 7_777_777 });
     }
     put(draft, 500, &["+0410001999", "+0410001998", "-0410001999"]);
-    draft.begin(vec![500, 0, 0, 0, 9_900, 999, 7, 0, 0], chance);
+    draft.begin(
+        State { location: 500, counter: 9_900, problem: 999, reader: 7, ..State::default() },
+        chance,
+    );
     draft.deck("T500000");
     draft.run(200 * 11 + 999 * 11 - 1, 1, 0);
     draft.run(200 * 11 + 999 * 11, 1, 0);
@@ -88,7 +98,7 @@ fn all_cells_punched(draft: &mut Draft, chance: &mut Chance) {
 
 fn over_long_decks(draft: &mut Draft, chance: &mut Chance) {
     put(draft, 1, &["+0454000000"]);
-    draft.begin(vec![1, 0, 0, 0, 0, 0, 7, 0, 0], chance);
+    draft.begin(State { location: 1, reader: 7, ..State::default() }, chance);
     draft.deck(with_fault(Fault::TooLong, chance));
     draft.load(0);
     draft.run(100, 1, 0);
@@ -98,7 +108,7 @@ fn over_long_decks(draft: &mut Draft, chance: &mut Chance) {
 
 fn read_finds_its_second_card_wrong(draft: &mut Draft, chance: &mut Chance) {
     put(draft, 101, &["+0400300302"]);
-    draft.begin(vec![101, 0, 0, 0, 0, 0, 7, 0, 0], chance);
+    draft.begin(State { location: 101, reader: 7, ..State::default() }, chance);
     draft.deck("T10100720000300+0000000001+000000000200010000303+0000000003000");
     draft.run(0, 1, 0);
     draft.deck("T10100720000300+0000000001+0000000002000");
@@ -109,10 +119,21 @@ fn read_finds_its_second_card_wrong(draft: &mut Draft, chance: &mut Chance) {
 
 fn bad_punch_in_traced_mode(draft: &mut Draft, chance: &mut Chance) {
     put(draft, 101, &["+0410005004", "+0451000000", "+0410000000", "+0410900901"]);
-    draft.begin(vec![101, 0, 0, 0, 9_999, 7, 7, 1, 1], chance);
+    draft.begin(
+        State {
+            location: 101,
+            counter: 9_999,
+            problem: 7,
+            reader: 7,
+            mode: 1,
+            tracing: 1,
+            ..State::default()
+        },
+        chance,
+    );
     draft.deck("T101007");
     draft.run(200, 4, 0);
-    draft.set_state([101, 0, 0, 0, 0, 7, 7, 0, 0]);
+    draft.set_state(State { location: 101, problem: 7, reader: 7, ..State::default() });
     draft.run(200, 4, 0);
 }
 
@@ -120,7 +141,7 @@ fn bad_punch_in_traced_mode(draft: &mut Draft, chance: &mut Chance) {
 fn sellers_table(draft: &mut Draft, chance: &mut Chance) {
     put(draft, 700, &["+7000000050", "-0000000000"]);
     put(draft, 101, &["-9999999999"]);
-    draft.begin(vec![5_000; 9], chance);
+    draft.begin(strange(5_000), chance);
     draft.deck(format!("{PAPER}?"));
     draft.load(1);
     draft.deck(PAPER.replace("+1200201202", "+1200700202"));
@@ -130,10 +151,10 @@ fn sellers_table(draft: &mut Draft, chance: &mut Chance) {
 
 /// Locations that no order has, and no order in the cell.
 fn empty_run(draft: &mut Draft, chance: &mut Chance) {
-    draft.begin(vec![0, 0, 0, 0, 0, 0, 7, 0, 0], chance);
+    draft.begin(State { reader: 7, ..State::default() }, chance);
     draft.deck("T101007");
     for location in [0, 1, 999, 1_000, 1_001] {
-        draft.set_state([location, 0, 0, 0, 0, 0, 7, 0, 0]);
+        draft.set_state(State { location, reader: 7, ..State::default() });
         draft.run(0, 0, 0);
         draft.run(0, 1, 0);
     }

@@ -9,10 +9,8 @@ use crate::numbers::stranger;
 
 /// An order of a built code with these addresses.
 pub fn built(wanted: Code, a: u64, b: u64, c: u64) -> Order {
-    let (o1, o2, _, _) =
-        BUILT.into_iter().find(|(_, _, code, _)| *code == wanted).expect("a built code");
-    let a = if (1..=5).contains(&o1) { a } else { o2 };
-    Order { minus: false, o1, a, b, c }
+    let built = BUILT.into_iter().find(|built| built.code == wanted).expect("a built code");
+    Order { minus: false, o1: built.o1, a: built.a(a), b, c }
 }
 
 /// Any address, the ends more often than others.

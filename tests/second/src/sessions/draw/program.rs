@@ -10,6 +10,7 @@ use super::text::Text;
 use crate::chance::Chance;
 use crate::decks::build::any_word;
 use crate::model::card::DataCard;
+use crate::model::state::State;
 use crate::model::word::{Word, MINUS};
 use crate::sessions::message::Message;
 
@@ -61,8 +62,7 @@ fn loaded(words: &BTreeMap<u64, Word>, layout: &Layout, draft: &mut Draft, chanc
         let cell = chance.between(1, 999);
         draft.put(cell, any_word(chance));
     }
-    let state =
-        if chance.percent(50) { vec![0; 9] } else { (0..9).map(|_| chance.next()).collect() };
+    let state = if chance.percent(50) { State::default() } else { strange_state(chance) };
     draft.begin(state, chance);
     let mut deck = String::new();
     if chance.percent(30) {
@@ -86,11 +86,23 @@ fn direct(words: &BTreeMap<u64, Word>, layout: &Layout, draft: &mut Draft, chanc
     let mode = chance.below(2);
     let tracing = mode * chance.below(2);
     let counter = chance.pick(&[0, 9_999]);
-    draft.begin(
-        vec![layout.program, 0, 0, 0, counter, chance.below(1_000), reader, mode, tracing],
-        chance,
-    );
+    let (location, problem) = (layout.program, chance.below(1_000));
+    let state = State { location, counts: [0; 3], counter, problem, reader, mode, tracing };
+    draft.begin(state, chance);
     draft.deck(deck);
+}
+
+/// Any numbers at all, which a load does not judge.
+fn strange_state(chance: &mut Chance) -> State {
+    State {
+        location: chance.next(),
+        counts: [0; 3].map(|_| chance.next()),
+        counter: chance.next(),
+        problem: chance.next(),
+        reader: chance.next(),
+        mode: chance.next(),
+        tracing: chance.next(),
+    }
 }
 
 /// Cards for cells whose words come again on a later card.

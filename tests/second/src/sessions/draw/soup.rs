@@ -6,6 +6,7 @@ use super::parts::{any_address, built};
 use super::steer::steer;
 use crate::chance::Chance;
 use crate::model::order::{Change, Code, Order, BUILT};
+use crate::model::state::State;
 use crate::model::word::Word;
 use crate::sessions::message::Message;
 
@@ -29,12 +30,9 @@ pub fn session(chance: &mut Chance) -> Vec<Message> {
     let mode = chance.below(2);
     let tracing = mode * chance.below(2);
     let (deck, reader) = layout.small_deck(chance);
-    let [a, b, c] = counts;
     let counter = chance.pick(&[0, 9_990, 9_999]);
-    draft.begin(
-        vec![layout.program, a, b, c, counter, chance.below(1_000), reader, mode, tracing],
-        chance,
-    );
+    let (location, problem) = (layout.program, chance.below(1_000));
+    draft.begin(State { location, counts, counter, problem, reader, mode, tracing }, chance);
     draft.deck(deck);
     let runs = chance.between(3, 9);
     steer(&mut draft, runs, layout.program..layout.program + length, chance);
@@ -92,7 +90,7 @@ fn done(layout: &Layout, chance: &mut Chance) -> Order {
 /// Mathematical orders as often as all others together.
 fn drawn_code(chance: &mut Chance) -> Code {
     loop {
-        let (_, _, code, _) = chance.pick(&BUILT);
+        let code = chance.pick(&BUILT).code;
         match code {
             Code::OfTwo(_) | Code::OfOne(_) | Code::Move000 => return code,
             Code::UncStop if !chance.one_in(4) => {}

@@ -5,6 +5,7 @@ use std::ops::Range;
 use super::draft::Draft;
 use crate::chance::Chance;
 use crate::model::calls::Ended;
+use crate::model::stop::Reason;
 
 /// A few runs; after each, the machine goes on from where it stands, or is helped past what stopped
 /// it. `program` is where the orders lie.
@@ -19,7 +20,7 @@ pub fn steer(draft: &mut Draft, runs: u64, program: Range<u64>, chance: &mut Cha
         };
         let stop = chance.pick(&[0, 0, 1, 1 << 40]);
         let ended = draft.run(room, budget, stop);
-        if matches!(ended.number, 10..=12) {
+        if ended.reason.entry().is_some() {
             return;
         }
         if !may_go_on(ended, chance) {
@@ -31,9 +32,9 @@ pub fn steer(draft: &mut Draft, runs: u64, program: Range<u64>, chance: &mut Cha
 /// Whether the next run begins with the state as it is: always after 01 and 02, mostly after 22,
 /// where more room may come, and now and then after others, to see the same order tried again.
 fn may_go_on(ended: Ended, chance: &mut Chance) -> bool {
-    match ended.number {
-        1 | 2 => true,
-        22 => chance.percent(80),
+    match ended.reason {
+        Reason::CondStop | Reason::BudgetUsed => true,
+        Reason::NoRoomForTrace | Reason::NoRoomForPunch => chance.percent(80),
         _ => chance.one_in(8),
     }
 }
@@ -41,15 +42,15 @@ fn may_go_on(ended: Ended, chance: &mut Chance) -> bool {
 /// Puts the location behind the order that would not go on, or somewhere into the program if that
 /// is not part of it.
 fn help(draft: &mut Draft, program: &Range<u64>, chance: &mut Chance) {
-    let mut state = draft.state().to_vec();
-    let next = state[0] + 1;
-    state[0] = if program.contains(&next) && chance.percent(90) {
+    let mut state = draft.state();
+    let next = state.location + 1;
+    state.location = if program.contains(&next) && chance.percent(90) {
         next
     } else {
         chance.between(program.start, program.end - 1)
     };
-    if state[1..4].iter().any(|&count| count > 20) || chance.one_in(6) {
-        state[1..4].fill(0);
+    if state.counts.iter().any(|&count| count > 20) || chance.one_in(6) {
+        state.counts = [0; 3];
     }
     draft.set_state(state);
 }
