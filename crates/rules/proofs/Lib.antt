@@ -17,3 +17,6 @@ pub mod Decks
 pub mod Results
 pub mod States
 pub mod Agreed
+pub mod Readers
+pub mod Sound
+pub mod SoundOrders
