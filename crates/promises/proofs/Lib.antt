@@ -8,3 +8,5 @@ pub mod Rounding
 pub mod Reckoning
 pub mod Cards
 pub mod Worked
+pub mod Entry
+pub mod Again

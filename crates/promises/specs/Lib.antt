@@ -8,3 +8,4 @@ pub mod Rounding
 pub mod Reckoning
 pub mod Cards
 pub mod Worked
+pub mod Again

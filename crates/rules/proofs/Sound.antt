@@ -9,7 +9,7 @@ use lib.Dec.{leb}
 use lib.ListN.{length}
 use borrow.Author.Tests.{leb-true, le-leb}
 use Rattle.rules.specs.Words.{isWord}
-use Rattle.rules.specs.Drum.{cellAt, wordAt, store, isOwned, wordFits, wordsFit}
+use Rattle.rules.specs.Drum.{cellAt, wordAt, store, isOwned, marksOf, marksFit, wordFits, wordsFit}
 use Rattle.rules.specs.Decks.{mayStand}
 use Rattle.rules.specs.Machine.{countA, countB, countC}
 use Rattle.rules.specs.Running.{boxFits, stateFits}
@@ -37,6 +37,12 @@ unfolding wordsFit
 words-fit [] h = refl
 words-fit (Foreign ∷ v) h = words-fit v (λ a. h (suc a))
 words-fit (Owned w ∷ v) h = rw (le-leb w 19999999999 (h 0)) (words-fit v (λ a. h (suc a)))
+
+pub marks-of-fit : (v : List Cell) → marksFit (marksOf v) ≡ true
+unfolding marksFit marksOf
+marks-of-fit [] = refl
+marks-of-fit (Foreign ∷ v) = marks-of-fit v
+marks-of-fit (Owned w ∷ v) = marks-of-fit v
 
 store-long : (v : List Cell) (a w : ℕ) → length (store v a w) ≡ length v
 store-long [] a w = refl
