@@ -20,3 +20,7 @@ pub mod Agreed
 pub mod Readers
 pub mod Sound
 pub mod SoundOrders
+pub mod Rooms
+pub mod Refusals
+pub mod Full
+pub mod RoomRuns
