@@ -69,7 +69,7 @@ module _ (c : RunCall) (h : Entered c) where
   lent : Fit (c .drum) (c .marks)
   lent = fit (c .drum) (c .marks) (h .drum-fits)
 
-  begun-sound : Sound (c .deck) (h .first) (begun c)
+  pub begun-sound : Sound (c .deck) (h .first) (begun c)
   begun-sound =
       let s = steady-from (view (c .drum) (c .marks)) (c .deck) (h .first) (c .state) (c .budget) (h .state-fits) in
       record {

@@ -9,3 +9,4 @@ pub mod Reckoning
 pub mod Cards
 pub mod Worked
 pub mod Again
+pub mod Rooms
