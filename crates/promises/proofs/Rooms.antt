@@ -7,7 +7,7 @@ use mathlib.Core.List.{List, [], _∷_, _++_, append-assoc, append-nil}
 use mathlib.Core.Bool.{Bool, true, false, true≢false}
 use native.Mathlib.Nat.{add-zero, suc-inj}
 use native.Mathlib.Omega.{arith}
-use lib.ListN.{length, drop}
+use lib.ListN.{length, drop, length-append, length-drop}
 use lib.Seq.{take-append-seam}
 use Rattle.rules.specs.Drum.{view, markOf, marksOf, numberOver, overlay, drumFits}
 use Rattle.rules.specs.Decks.{deckOf}
@@ -351,3 +351,14 @@ never-full c (out ∷ outs) l (more _ _ k v) b =
         → isFull (roomAfterRoom (out ∷ outs) c .ending) ≡ false
     by-full true e go = rw (e, roomAfterRoom) (go (let z = full-counts c l e in omega arith))
     by-full false e go = rw (e, roomAfterRoom) e
+
+-- the output is no shorter than it was
+over-long : (sent out : List ℕ) → length out ≤ length (over sent out)
+unfolding over
+over-long sent out = simp (length-append, length-drop) (omega arith)
+
+pub out-kept : (c : RunCall) → length (c .out) ≤ length (ran c .out)
+unfolding ranAs
+out-kept c =
+    of-call c (length (c .out) ≤ length (ran c .out)) (λ h. rw (ran-course c h) (over-long (course c .machine .sent) (c .out)))
+    (λ h. rw (h .1 (c .out)) (omega arith))
