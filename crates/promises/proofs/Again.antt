@@ -14,7 +14,7 @@ use Rattle.rules.specs.declared.Ending.the-variants.{Ran}
 use Rattle.rules.proofs.Tests.{false-true}
 use Rattle.promises.specs.Undone.{AsBefore}
 use Rattle.promises.specs.Counting.{Comes, usedUp, ended}
-use Rattle.promises.specs.Again.{behind, again, MayGoOnLater, MetAgain, SameOrderNextRun}
+use Rattle.promises.specs.Again.{following, again, MayGoOnLater, MetAgain, SameOrderNextRun}
 use Rattle.promises.proofs.Undone.{same-order-again}
 use Rattle.promises.proofs.Counting.{count-is-steps}
 use Rattle.promises.proofs.Entry.{Entered, course, entered, ran-course, left-view, again-entered}
@@ -47,12 +47,12 @@ unsent m u h =
       done-same = h .done-same;
     }
 
--- the machine with which the run behind c begins is the one that c left, with nothing sent
+-- the machine with which the run following c begins is the one that c left, with nothing sent
 pub begun-behind : (c : RunCall) → Entered c → (out : List ℕ) (budget : ℕ) (switches : Switches)
     → begun (again c out budget switches) ≡ record { cells = course c .machine .cells; sent = []; state = course c .machine .state }
 unfolding ranAs
 begun-behind c h out budget switches =
-    ap (λ (x : RunResult). begun (behind c x out budget switches)) (ran-course c h)
+    ap (λ (x : RunResult). begun (following c x out budget switches)) (ran-course c h)
     ∙ ap (λ (v : List Cell). record { cells = v; sent = []; state = course c .machine .state }) (left-view c h)
 
 pub same-order-next-run : SameOrderNextRun

@@ -19,10 +19,11 @@ use Rattle.rules.specs.declared.Bar.{Bar}
 use Rattle.rules.specs.declared.Bar.the-variants.{BadDrum, BadDeck, BadState}
 use Rattle.rules.specs.declared.Ending.the-variants.{Ran, NotRun}
 use Rattle.rules.proofs.Views.{Fit, fit, length-overlay, length-view, length-marks, view-again}
-use Rattle.rules.proofs.Readers.{good-tail}
+use Rattle.rules.proofs.Tails.{good-tail}
 use Rattle.rules.proofs.Sound.{cells-begun, marks-of-fit, words-fit, steady-from, steady-fits}
-use Rattle.rules.proofs.SoundOrders.{Sound, run-sound}
-use Rattle.promises.specs.Again.{behind}
+use Rattle.rules.proofs.SoundChanges.{Sound}
+use Rattle.rules.proofs.SoundOrders.{run-sound}
+use Rattle.promises.specs.Again.{following}
 
 -- ---- what the entry checks found
 
@@ -86,9 +87,9 @@ module _ (c : RunCall) (h : Entered c) where
   pub left-view : view (overlay (c .drum) (course c .machine .cells)) (marksOf (course c .machine .cells)) ≡ course c .machine .cells
   left-view = view-again (c .drum) (course c .machine .cells) (lent .drum-long ∙ sym (left-sound .cells .long))
 
-  behind-entered : (out : List ℕ) (budget : ℕ) (switches : Switches) → budget ≤ 999999 → Entered (behind c (ranAs c (course c)) out budget switches)
+  following-entered : (out : List ℕ) (budget : ℕ) (switches : Switches) → budget ≤ 999999 → Entered (following c (ranAs c (course c)) out budget switches)
   unfolding ranAs drumFits
-  behind-entered out budget switches l =
+  following-entered out budget switches l =
       let v : List Cell = course c .machine .cells in
       record {
         drum-fits =
@@ -106,6 +107,6 @@ module _ (c : RunCall) (h : Entered c) where
         state-fits = rw left-view (steady-fits v (c .deck) (h .first) (course c .machine .state) budget l (left-sound .state) (left-sound .cells .owned));
       }
 
-  pub again-entered : (out : List ℕ) (budget : ℕ) (switches : Switches) → budget ≤ 999999 → Entered (behind c (ran c) out budget switches)
+  pub again-entered : (out : List ℕ) (budget : ℕ) (switches : Switches) → budget ≤ 999999 → Entered (following c (ran c) out budget switches)
   again-entered out budget switches l =
-      subst (λ (x : RunResult). Entered (behind c x out budget switches)) (sym (ran-course c h)) (behind-entered out budget switches l)
+      subst (λ (x : RunResult). Entered (following c x out budget switches)) (sym (ran-course c h)) (following-entered out budget switches l)

@@ -10,4 +10,6 @@ pub mod Cards
 pub mod Worked
 pub mod Entry
 pub mod Again
+pub mod Barred
+pub mod Beside
 pub mod Rooms

@@ -15,11 +15,11 @@ use Rattle.promises.specs.Undone.{AsBefore}
 use Rattle.promises.specs.Counting.{Steps}
 
 -- A call with the drum, marks and state that a run of c left, and c's deck; output, budget and switches are its own.
-abbrev pub behind : RunCall → RunResult → List ℕ → ℕ → Switches → RunCall
-behind c x out budget switches = runOf (x .drum) (x .marks) (c .deck) out (x .state) budget switches
+abbrev pub following : RunCall → RunResult → List ℕ → ℕ → Switches → RunCall
+following c x out budget switches = runOf (x .drum) (x .marks) (c .deck) out (x .state) budget switches
 
 abbrev pub again : RunCall → List ℕ → ℕ → Switches → RunCall
-again c out budget switches = behind c (ran c) out budget switches
+again c out budget switches = following c (ran c) out budget switches
 
 -- Behind a run that was not refused at its entry, no run is, whatever the first one ended with: 02 may go on later.
 abbrev pub MayGoOnLater : Type 0

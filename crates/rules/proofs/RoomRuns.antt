@@ -1,8 +1,8 @@
 -- Runs in rooms: where neither ends with 22, runs in two rooms are the same; a run that ends with 22 is the beginning of the run in a
 -- larger room; and where the room holds the most that so many orders can write, no run ends with 22. Assumes nothing.
 use Prim.Native.Nat.{ℕ, zero, suc, _+_, _*_, _≤_, _<_}
-use mathlib.Core.Path.{_≡_, refl, sym, ap, subst, _∙_}
-use mathlib.Core.List.{List, _++_}
+use mathlib.Core.Path.{_≡_, refl, sym, ap, _∙_}
+use mathlib.Core.List.{List}
 use mathlib.Core.Bool.{Bool, true, false}
 use native.Mathlib.Omega.{arith}
 use lib.ListN.{length}
@@ -13,10 +13,11 @@ use Rattle.rules.specs.declared.Refusal.the-variants.{NoRoom}
 use Rattle.rules.specs.declared.Outcome.{Outcome}
 use Rattle.rules.specs.declared.Outcome.the-variants.{GoesOn, Stops, Undone}
 use Rattle.rules.proofs.Tests.{false-true}
-use Rattle.rules.proofs.Readers.{Tail}
-use Rattle.rules.proofs.SoundOrders.{Sound, step-sound}
-use Rattle.rules.proofs.Rooms.{inRoom, sentBefore, answeredBehind, Alike, first-full, second-full, alike, step-alike}
-use Rattle.rules.proofs.Full.{mostSent, Stepped, step-stepped, traced-only}
+use Rattle.rules.proofs.Tails.{Tail}
+use Rattle.rules.proofs.SoundChanges.{Sound}
+use Rattle.rules.proofs.SoundOrders.{step-sound}
+use Rattle.rules.proofs.Rooms.{inRoom, sentBefore, Alike, first-full, second-full, alike, step-alike}
+use Rattle.rules.proofs.Full.{mostSent, step-stepped, traced-only}
 
 -- a run that did not end with 22
 abbrev pub NotFull : Outcome → Type 0
