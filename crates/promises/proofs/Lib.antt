@@ -9,3 +9,8 @@ pub mod Due
 pub mod Reckoning
 pub mod Cards
 pub mod Worked
+pub mod Entry
+pub mod Again
+pub mod Barred
+pub mod Beside
+pub mod Rooms

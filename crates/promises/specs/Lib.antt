@@ -8,3 +8,5 @@ pub mod Rounding
 pub mod Reckoning
 pub mod Cards
 pub mod Worked
+pub mod Again
+pub mod Rooms

@@ -17,3 +17,13 @@ pub mod Decks
 pub mod Results
 pub mod States
 pub mod Agreed
+pub mod Tails
+pub mod Readers
+pub mod Sound
+pub mod SoundChanges
+pub mod SoundOrders
+pub mod Rooms
+pub mod Refusals
+pub mod Punching
+pub mod Full
+pub mod RoomRuns
