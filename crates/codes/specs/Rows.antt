@@ -1,11 +1,13 @@
 -- The table of built codes by the number of its row. Assumes nothing.
-use Prim.Native.Nat.{ℕ, zero, suc}
+use Prim.Native.Nat.{ℕ, suc}
 use mathlib.Core.List.{List, [], _∷_, map}
 use lib.Dec.{eqb}
 use lib.ListN.{getD}
 use Rattle.rules.specs.Words.{pick}
 use Rattle.rules.specs.Bytes.{bytes}
-use Rattle.rules.specs.Codes.{Row, codes}
+use Rattle.rules.specs.Codes.{Row}
+use Rattle.rules.specs.declared.Class.{Class}
+use Rattle.rules.specs.declared.Class.the-variants.{Free}
 use Rattle.rules.specs.declared.Built.{Built}
 use Rattle.rules.specs.declared.Built.the-variants.{As, No}
 
@@ -14,17 +16,19 @@ unfoldable pub rowIn : ℕ → List Row → ℕ
 rowIn k [] = 0
 rowIn k (r ∷ rs) = pick (eqb k (r .code)) 0 (suc (rowIn k rs))
 
--- what stands in a row; behind the last there is no operation and a dash for a name, and any code will do
+-- what stands in a row, by the row's number; behind the last there is no operation and a dash for a name, and any code and class will do
 abbrev pub rowBuilt : ℕ → List Row → Built
 rowBuilt n rs = getD (map (λ (r : Row). As (r .operation) (r .class)) rs) n No
-
-abbrev pub nameAt : ℕ → List Row → List ℕ
-nameAt n rs = getD (map (λ (r : Row). r .name) rs) n (bytes "-         ")
 
 abbrev pub codeAt : ℕ → List Row → ℕ
 codeAt n rs = getD (map (λ (r : Row). r .code) rs) n 0
 
--- what an entry of an index means: a row, counted from 1
-unfoldable pub builtOf : ℕ → Built
-builtOf zero = No
-builtOf (suc n) = rowBuilt n codes
+abbrev pub classAt : ℕ → List Row → Class
+classAt n rs = getD (map (λ (r : Row). r .class) rs) n Free
+
+abbrev pub nameAt : ℕ → List Row → List ℕ
+nameAt n rs = getD (map (λ (r : Row). r .name) rs) n (bytes "-         ")
+
+-- the operation in a row, with a class
+abbrev pub builtAs : ℕ → Class → List Row → Built
+builtAs n k rs = getD (map (λ (r : Row). As (r .operation) k) rs) n No

@@ -2,7 +2,7 @@
 ghost use mathlib.Core.Path.{_≡_};
 ghost use Prim.Native.Nat.{_<_, _≤_};
 ghost use Rattle.rules.specs.Codes.{codes, lookup, nameIn};
-ghost use Rattle.codes.specs.Rows.{codeAt, nameAt, rowIn, builtOf};
+ghost use Rattle.codes.specs.Rows.{codeAt, classAt, nameAt, rowIn, builtAs};
 use rules::Address;
 use rules::Built;
 use rules::Changing;
@@ -12,135 +12,99 @@ use rules::Operation;
 use rules::Reckoning;
 use rules::Tracing;
 
-// A row: a code and its name. What the code is stands at the row's number, in `built_of`.
-struct Row(u64, [u8; 10]);
+// A row: a code, the class of its operands, and its name. Its operation stands at the row's number, in `built_of`.
+pub(crate) struct Row(pub(crate) u64, pub(crate) Class, [u8; 10]);
 
 const ROWS: [Row; 36] = [
-    Row(1_000, *b"ADD       "),
-    Row(2_000, *b"SUB       "),
-    Row(3_000, *b"MPY       "),
-    Row(4_000, *b"DIV       "),
-    Row(5_000, *b"NGMPY     "),
-    Row(9_000, *b"MOVE      "),
-    Row(0, *b"UNC STOP  "),
-    Row(200, *b"COND STOP "),
-    Row(201, *b"TR SGN    "),
-    Row(202, *b"TR EXP    "),
-    Row(203, *b"TR        "),
-    Row(204, *b"TR SUBR   "),
-    Row(100, *b"LOOP A    "),
-    Row(10, *b"LOOP B    "),
-    Row(1, *b"LOOP C    "),
-    Row(110, *b"LOOP AB   "),
-    Row(101, *b"LOOP AC   "),
-    Row(11, *b"LOOP BC   "),
-    Row(111, *b"LOOP ABC  "),
-    Row(500, *b"SET A     "),
-    Row(50, *b"SET B     "),
-    Row(5, *b"SET C     "),
-    Row(600, *b"ADD A     "),
-    Row(60, *b"ADD B     "),
-    Row(6, *b"ADD C     "),
-    Row(700, *b"SUB A     "),
-    Row(70, *b"SUB B     "),
-    Row(7, *b"SUB C     "),
-    Row(300, *b"SQRT      "),
-    Row(350, *b"ABS       "),
-    Row(400, *b"READ      "),
-    Row(410, *b"PCH       "),
-    Row(450, *b"START TR  "),
-    Row(451, *b"STOP TR   "),
-    Row(452, *b"ST TR ERAS"),
-    Row(454, *b"NOOP      "),
+    Row(1_000, Class::TwoNumbers, *b"ADD       "),
+    Row(2_000, Class::TwoNumbers, *b"SUB       "),
+    Row(3_000, Class::TwoNumbers, *b"MPY       "),
+    Row(4_000, Class::TwoNumbers, *b"DIV       "),
+    Row(5_000, Class::TwoNumbers, *b"NGMPY     "),
+    Row(9_000, Class::OneWord, *b"MOVE      "),
+    Row(0, Class::Free, *b"UNC STOP  "),
+    Row(200, Class::Free, *b"COND STOP "),
+    Row(201, Class::Free, *b"TR SGN    "),
+    Row(202, Class::Free, *b"TR EXP    "),
+    Row(203, Class::Free, *b"TR        "),
+    Row(204, Class::Linked, *b"TR SUBR   "),
+    Row(100, Class::Free, *b"LOOP A    "),
+    Row(10, Class::Free, *b"LOOP B    "),
+    Row(1, Class::Free, *b"LOOP C    "),
+    Row(110, Class::Free, *b"LOOP AB   "),
+    Row(101, Class::Free, *b"LOOP AC   "),
+    Row(11, Class::Free, *b"LOOP BC   "),
+    Row(111, Class::Free, *b"LOOP ABC  "),
+    Row(500, Class::Changed, *b"SET A     "),
+    Row(50, Class::Changed, *b"SET B     "),
+    Row(5, Class::Changed, *b"SET C     "),
+    Row(600, Class::Changed, *b"ADD A     "),
+    Row(60, Class::Changed, *b"ADD B     "),
+    Row(6, Class::Changed, *b"ADD C     "),
+    Row(700, Class::Changed, *b"SUB A     "),
+    Row(70, Class::Changed, *b"SUB B     "),
+    Row(7, Class::Changed, *b"SUB C     "),
+    Row(300, Class::OneNumber, *b"SQRT      "),
+    Row(350, Class::OneNumber, *b"ABS       "),
+    Row(400, Class::BlockIn, *b"READ      "),
+    Row(410, Class::BlockOut, *b"PCH       "),
+    Row(450, Class::Free, *b"START TR  "),
+    Row(451, Class::Free, *b"STOP TR   "),
+    Row(452, Class::Free, *b"ST TR ERAS"),
+    Row(454, Class::Free, *b"NOOP      "),
 ];
 
-// What the row with this number is, counted from 1; no row has the number 0.
-pub(crate) fn built_of(row: u16) -> Built
-    ensures { λ r. ⌜ r ≡ builtOf row ⌝ }
+// What the row with this number, counted from 0, is as an operation of this class; behind the last row nothing is built.
+pub(crate) fn built_of(row: u16, class: Class) -> Built
+    ensures { λ r. ⌜ r ≡ builtAs row class codes ⌝ }
 {
     match row {
-        1 => Built::As(Operation::Reckon(Reckoning::Add), Class::TwoNumbers),
-        2 => Built::As(Operation::Reckon(Reckoning::Sub), Class::TwoNumbers),
-        3 => Built::As(Operation::Reckon(Reckoning::Mpy), Class::TwoNumbers),
-        4 => Built::As(Operation::Reckon(Reckoning::Div), Class::TwoNumbers),
-        5 => Built::As(Operation::Reckon(Reckoning::Ngmpy), Class::TwoNumbers),
-        6 => Built::As(Operation::Move, Class::OneWord),
-        7 => Built::As(Operation::Go(Going::UncStop), Class::Free),
-        8 => Built::As(Operation::Go(Going::CondStop), Class::Free),
-        9 => Built::As(Operation::Go(Going::TrSgn), Class::Free),
-        10 => Built::As(Operation::Go(Going::TrExp), Class::Free),
-        11 => Built::As(Operation::Go(Going::Tr), Class::Free),
-        12 => Built::As(Operation::Go(Going::TrSubr), Class::Linked),
-        13 => Built::As(Operation::Loop(true, false, false), Class::Free),
-        14 => Built::As(Operation::Loop(false, true, false), Class::Free),
-        15 => Built::As(Operation::Loop(false, false, true), Class::Free),
-        16 => Built::As(Operation::Loop(true, true, false), Class::Free),
-        17 => Built::As(Operation::Loop(true, false, true), Class::Free),
-        18 => Built::As(Operation::Loop(false, true, true), Class::Free),
-        19 => Built::As(Operation::Loop(true, true, true), Class::Free),
-        20 => Built::As(
-            Operation::Change(Changing::SetTo, Address::OfA),
-            Class::Changed,
-        ),
-        21 => Built::As(
-            Operation::Change(Changing::SetTo, Address::OfB),
-            Class::Changed,
-        ),
-        22 => Built::As(
-            Operation::Change(Changing::SetTo, Address::OfC),
-            Class::Changed,
-        ),
-        23 => Built::As(
-            Operation::Change(Changing::AddTo, Address::OfA),
-            Class::Changed,
-        ),
-        24 => Built::As(
-            Operation::Change(Changing::AddTo, Address::OfB),
-            Class::Changed,
-        ),
-        25 => Built::As(
-            Operation::Change(Changing::AddTo, Address::OfC),
-            Class::Changed,
-        ),
-        26 => Built::As(
-            Operation::Change(Changing::SubFrom, Address::OfA),
-            Class::Changed,
-        ),
-        27 => Built::As(
-            Operation::Change(Changing::SubFrom, Address::OfB),
-            Class::Changed,
-        ),
-        28 => Built::As(
-            Operation::Change(Changing::SubFrom, Address::OfC),
-            Class::Changed,
-        ),
-        29 => Built::As(Operation::Reckon(Reckoning::Sqrt), Class::OneNumber),
-        30 => Built::As(Operation::Reckon(Reckoning::Abs), Class::OneNumber),
-        31 => Built::As(Operation::Read, Class::BlockIn),
-        32 => Built::As(Operation::Pch, Class::BlockOut),
-        33 => Built::As(Operation::Trace(Tracing::StartTr), Class::Free),
-        34 => Built::As(Operation::Trace(Tracing::StopTr), Class::Free),
-        35 => Built::As(Operation::Trace(Tracing::StTrEras), Class::Free),
-        36 => Built::As(Operation::Go(Going::Noop), Class::Free),
+        0 => Built::As(Operation::Reckon(Reckoning::Add), class),
+        1 => Built::As(Operation::Reckon(Reckoning::Sub), class),
+        2 => Built::As(Operation::Reckon(Reckoning::Mpy), class),
+        3 => Built::As(Operation::Reckon(Reckoning::Div), class),
+        4 => Built::As(Operation::Reckon(Reckoning::Ngmpy), class),
+        5 => Built::As(Operation::Move, class),
+        6 => Built::As(Operation::Go(Going::UncStop), class),
+        7 => Built::As(Operation::Go(Going::CondStop), class),
+        8 => Built::As(Operation::Go(Going::TrSgn), class),
+        9 => Built::As(Operation::Go(Going::TrExp), class),
+        10 => Built::As(Operation::Go(Going::Tr), class),
+        11 => Built::As(Operation::Go(Going::TrSubr), class),
+        12 => Built::As(Operation::Loop(true, false, false), class),
+        13 => Built::As(Operation::Loop(false, true, false), class),
+        14 => Built::As(Operation::Loop(false, false, true), class),
+        15 => Built::As(Operation::Loop(true, true, false), class),
+        16 => Built::As(Operation::Loop(true, false, true), class),
+        17 => Built::As(Operation::Loop(false, true, true), class),
+        18 => Built::As(Operation::Loop(true, true, true), class),
+        19 => Built::As(Operation::Change(Changing::SetTo, Address::OfA), class),
+        20 => Built::As(Operation::Change(Changing::SetTo, Address::OfB), class),
+        21 => Built::As(Operation::Change(Changing::SetTo, Address::OfC), class),
+        22 => Built::As(Operation::Change(Changing::AddTo, Address::OfA), class),
+        23 => Built::As(Operation::Change(Changing::AddTo, Address::OfB), class),
+        24 => Built::As(Operation::Change(Changing::AddTo, Address::OfC), class),
+        25 => Built::As(Operation::Change(Changing::SubFrom, Address::OfA), class),
+        26 => Built::As(Operation::Change(Changing::SubFrom, Address::OfB), class),
+        27 => Built::As(Operation::Change(Changing::SubFrom, Address::OfC), class),
+        28 => Built::As(Operation::Reckon(Reckoning::Sqrt), class),
+        29 => Built::As(Operation::Reckon(Reckoning::Abs), class),
+        30 => Built::As(Operation::Read, class),
+        31 => Built::As(Operation::Pch, class),
+        32 => Built::As(Operation::Trace(Tracing::StartTr), class),
+        33 => Built::As(Operation::Trace(Tracing::StopTr), class),
+        34 => Built::As(Operation::Trace(Tracing::StTrEras), class),
+        35 => Built::As(Operation::Go(Going::Noop), class),
         _ => Built::No,
     }
 }
 
 // The row with this number, counted from 0.
-fn row_at(i: usize) -> Row
+pub(crate) fn row_at(i: usize) -> Row
     requires { ⌜ i < 36 ⌝ }
-    ensures { λ r. ⌜ (r .0 ≡ codeAt i codes) × (r .1 ≡ nameAt i codes) ⌝ }
+    ensures { λ r. ⌜ (r .0 ≡ codeAt i codes) × (r .1 ≡ classAt i codes) × (r .2 ≡ nameAt i codes) ⌝ }
 {
     ROWS[i]
-}
-
-// Its code.
-pub(crate) fn code_at(i: usize) -> u64
-    requires { ⌜ i < 36 ⌝ }
-    ensures { λ r. ⌜ r ≡ codeAt i codes ⌝ }
-{
-    let row = row_at(i);
-    row.0
 }
 
 // The first row with a code, and the one behind the last where the code is not built.
@@ -149,7 +113,8 @@ fn row_of(code: u64) -> usize
 {
     let mut i: usize = 0;
     while i < 36 {
-        if code_at(i) == code {
+        let row = row_at(i);
+        if row.0 == code {
             return i;
         }
         i += 1;
@@ -162,7 +127,12 @@ pub fn look_up(code: u64) -> Built
     ensures { λ r. ⌜ r ≡ lookup code codes ⌝ }
 {
     let i = row_of(code);
-    built_of(i as u16 + 1)
+    if i < 36 {
+        let row = row_at(i);
+        let class = row.1;
+        return built_of(i as u16, class);
+    }
+    Built::No
 }
 
 // The newsletter's name of a code.
@@ -172,7 +142,7 @@ pub fn name_of(code: u64) -> [u8; 10]
     let i = row_of(code);
     if i < 36 {
         let row = row_at(i);
-        return row.1;
+        return row.2;
     }
     *b"-         "
 }
