@@ -2,20 +2,18 @@
 use Prim.Native.Nat.{ℕ, zero, suc, _+_, _≤_, _<_}
 use mathlib.Core.Path.{_≡_, refl, sym, ap, _∙_}
 use mathlib.Core.Bool.{Bool, true, false}
-use mathlib.Core.List.{List, [], _∷_, map}
+use mathlib.Core.List.{List, [], _∷_}
 use native.Mathlib.Nat.{le-of-suc-le-suc, zero-add}
 use native.Mathlib.Numerals.{add-one}
 use native.Mathlib.Omega.{arith}
 use borrow.Author.Tests.{eq-eqb, ne-eqb}
 use lib.Dec.{eqb}
-use lib.ListN.{length, drop, getD}
+use lib.ListN.{length, drop}
 use Rattle.rules.specs.Words.{pick}
 use Rattle.rules.specs.Codes.{Row, codes, lookup, nameIn}
-use Rattle.rules.specs.declared.Class.{Class}
-use Rattle.rules.specs.declared.Class.the-variants.{Free, TwoNumbers, OneNumber, OneWord, Changed, Linked, BlockOut, BlockIn}
+use Rattle.rules.specs.declared.Built.{Built}
 use Rattle.rules.specs.declared.Built.the-variants.{As, No}
-use Rattle.codes.specs.Rows.{rowIn, rowBuilt, codeAt, classAt, nameAt, builtAs}
-use Rattle.codes.specs.Classes.{classOf}
+use Rattle.codes.specs.Rows.{rowIn, rowBuilt, nameAt, codeAt}
 
 pub found : (k : ℕ) (rs : List Row) → rowBuilt (rowIn k rs) rs ≡ lookup k rs
 unfolding lookup rowIn
@@ -36,37 +34,25 @@ named k (r ∷ rs) = by-test (eqb k (r .code)) (named k rs)
     by-test true e = refl
     by-test false e = e
 
--- the operation of a row, with the row's class
-pub classed : (n : ℕ) (rs : List Row) → builtAs n (classAt n rs) rs ≡ rowBuilt n rs
-classed n [] = refl
-classed zero (r ∷ rs) = refl
-classed (suc n) (r ∷ rs) = classed n rs
+-- ---- numbers that no row has
 
--- ---- numbers behind the last of a list
+unbuilt : (rs : List Row) (n : ℕ) → length rs ≤ n → No ≡ rowBuilt n rs
+unbuilt [] n l = refl
+unbuilt (r ∷ rs) zero l = let z : ⊥ = omega arith in absurd z
+unbuilt (r ∷ rs) (suc n) l = unbuilt rs n (le-of-suc-le-suc l)
 
+pub no-row : (n : ℕ) → 36 ≤ n → No ≡ rowBuilt n codes
+unfolding codes
+no-row n l = unbuilt codes n l
+
+-- none of the numbers below n
 abbrev pub NoneBelow : ℕ → ℕ → Type 0
 NoneBelow zero x = Unit {0}
 NoneBelow (suc n) x = NoneBelow n x × (x ≡ n → ⊥)
 
-past : (n x : ℕ) → NoneBelow n x → n ≤ x
+pub past : (n x : ℕ) → NoneBelow n x → n ≤ x
 past zero x t = omega arith
 past (suc n) x t = let p : n ≤ x = past n x (t .0) in omega (arith, t .1)
-
-behind : {A : Type 0} (l : List A) (d : A) (n : ℕ) → length l ≤ n → d ≡ getD l n d
-behind [] d n l = refl
-behind (x ∷ xs) d zero l = let z : ⊥ = omega arith in absurd z
-behind (x ∷ xs) d (suc n) l = behind xs d n (le-of-suc-le-suc l)
-
-pub no-row : (n : ℕ) → 36 ≤ n → No ≡ rowBuilt n codes
-unfolding codes
-no-row n l = behind (map (λ (r : Row). As (r .operation) (r .class)) codes) No n l
-
-pub no-arm : (n : ℕ) (k : Class) → NoneBelow 36 n → No ≡ builtAs n k codes
-unfolding codes
-no-arm n k t = behind (map (λ (r : Row). As (r .operation) k) codes) No n (past 36 n t)
-
-pub last-class : (n : ℕ) → NoneBelow 7 n → BlockIn ≡ classOf n
-last-class n t = behind (Free ∷ TwoNumbers ∷ OneNumber ∷ OneWord ∷ Changed ∷ Linked ∷ BlockOut ∷ []) BlockIn n (past 7 n t)
 
 -- ---- the search for the row of a code: what is left of the table has the answer of the whole
 

@@ -1,6 +1,6 @@
 -- The table laid out by slots: after n turns the first n rows stand at their slots, and after all of them each slot has the row of its
 -- code, by one test over the whole index. Assumes nothing.
-use Prim.Native.Nat.{ℕ, zero, suc, _+_, _/_, _%_, _≤_, _<_}
+use Prim.Native.Nat.{ℕ, zero, suc, _+_, _≤_, _<_}
 use mathlib.Core.Path.{_≡_, refl, sym, ap, _∙_}
 use mathlib.Core.Bool.{Bool, true, false}
 use mathlib.Core.List.{List, [], _∷_}
@@ -10,28 +10,26 @@ use native.Mathlib.Omega.{arith}
 use borrow.Author.Tests.{lt-ltb}
 use lib.ListN.{length, getD, set, replicate, length-set}
 use Rattle.rules.specs.Codes.{codes, lookup}
-use Rattle.rules.specs.declared.Class.{Class}
-use Rattle.rules.specs.declared.Class.the-variants.{Free, TwoNumbers, OneNumber, OneWord, Changed, Linked, BlockOut, BlockIn}
-use Rattle.codes.specs.Rows.{rowIn, rowBuilt, codeAt, classAt, builtAs}
-use Rattle.codes.specs.Classes.{classNumber, classOf}
+use Rattle.rules.specs.declared.Built.{Built}
+use Rattle.codes.specs.Rows.{rowIn, rowBuilt, codeAt}
 use Rattle.codes.specs.Keys.{keyIn, slotOf, codeOfSlot}
-use Rattle.codes.specs.Slots.{doneAs, entryOf, builtOf, entryAt, listed, indexFor, builtIn, Indexed}
-use Rattle.codes.proofs.Found.{found, classed}
+use Rattle.codes.specs.Slots.{doneAs, entryAt, listed, indexFor, builtIn, Indexed}
+use Rattle.codes.proofs.Found.{found}
 use Rattle.codes.proofs.Keyed.{slot-small, slot-code}
 
 unfoldable pub laidOut : ℕ → List ℕ
-laidOut zero = replicate 1010 288
-laidOut (suc n) = set (laidOut n) (slotOf (codeAt n codes)) (entryOf n)
+laidOut zero = replicate 1010 36
+laidOut (suc n) = set (laidOut n) (slotOf (codeAt n codes)) n
 
-pub laid-more : (n : ℕ) (index : List ℕ) (slot code entry : ℕ) → index ≡ laidOut n → slot ≡ slotOf code → code ≡ codeAt n codes
-    → entry ≡ entryOf n → set index slot entry ≡ laidOut (n + 1)
+pub laid-more : (n : ℕ) (index : List ℕ) (slot code : ℕ) → index ≡ laidOut n → slot ≡ slotOf code → code ≡ codeAt n codes
+    → set index slot n ≡ laidOut (n + 1)
 unfolding laidOut
-laid-more n index slot code entry e s k r = rw (add-one n) (λ i. set (e i) ((s ∙ ap slotOf k) i) (r i))
+laid-more n index slot code e s k = rw (add-one n) (λ i. set (e i) ((s ∙ ap slotOf k) i) n)
 
 pub long-enough : (n : ℕ) → length (laidOut n) ≡ 1010
 unfolding laidOut
 long-enough zero = refl
-long-enough (suc n) = length-set (laidOut n) (slotOf (codeAt n codes)) (entryOf n) ∙ long-enough n
+long-enough (suc n) = length-set (laidOut n) (slotOf (codeAt n codes)) n ∙ long-enough n
 
 pub laid-plain : laidOut 36 ≡ indexFor false
 unfolding laidOut codes rowIn slotOf listed
@@ -49,40 +47,11 @@ behind rule i zero k l = absurd (not-suc-le-zero l)
 behind rule i (suc n) zero l = ap rule (sym (add-zero i))
 behind rule i (suc n) (suc k) l = behind rule (suc i) n k (le-of-suc-le-suc l) ∙ ap rule (suc-add i k ∙ sym (add-suc i k))
 
-pub small : (k : Class) → classNumber k < 8
-small Free = omega arith
-small TwoNumbers = omega arith
-small OneNumber = omega arith
-small OneWord = omega arith
-small Changed = omega arith
-small Linked = omega arith
-small BlockOut = omega arith
-small BlockIn = omega arith
-
-class-back : (k : Class) → classOf (classNumber k) ≡ k
-class-back Free = refl
-class-back TwoNumbers = refl
-class-back OneNumber = refl
-class-back OneWord = refl
-class-back Changed = refl
-class-back Linked = refl
-class-back BlockOut = refl
-class-back BlockIn = refl
-
-entry-back : (n : ℕ) → builtOf (entryOf n) ≡ rowBuilt n codes
-entry-back n =
-    let k = classAt n codes in
-    let row : entryOf n / 8 ≡ n = omega (arith, small k) in
-    let class : entryOf n % 8 ≡ classNumber k = omega (arith, small k) in
-    (λ i. builtAs (row i) ((ap classOf class ∙ class-back k) i) codes) ∙ classed n codes
-
 at-slot : (t : Bool) (j : ℕ) → j ≤ 1009 → builtIn (indexFor t) j ≡ lookup (doneAs t (codeOfSlot j)) codes
 at-slot t j l =
     let m : j < 1010 = omega arith in
     simp (lt-ltb j 1010 m)
-    (ap builtOf (behind (entryAt t) 0 1010 j m ∙ ap (entryAt t) (zero-add j))
-    ∙ entry-back (rowIn (doneAs t (codeOfSlot j)) codes)
-    ∙ found (doneAs t (codeOfSlot j)) codes)
+    (ap (λ (n : ℕ). rowBuilt n codes) (behind (entryAt t) 0 1010 j m ∙ ap (entryAt t) (zero-add j)) ∙ found (doneAs t (codeOfSlot j)) codes)
 
 pub indexed : (t : Bool) (index : List ℕ) → index ≡ indexFor t → Indexed t index
 indexed t index e = record {

@@ -6,8 +6,6 @@ use lib.ListN.{getD}
 use Rattle.rules.specs.Words.{pick}
 use Rattle.rules.specs.Bytes.{bytes}
 use Rattle.rules.specs.Codes.{Row}
-use Rattle.rules.specs.declared.Class.{Class}
-use Rattle.rules.specs.declared.Class.the-variants.{Free}
 use Rattle.rules.specs.declared.Built.{Built}
 use Rattle.rules.specs.declared.Built.the-variants.{As, No}
 
@@ -16,19 +14,12 @@ unfoldable pub rowIn : ℕ → List Row → ℕ
 rowIn k [] = 0
 rowIn k (r ∷ rs) = pick (eqb k (r .code)) 0 (suc (rowIn k rs))
 
--- what stands in a row, by the row's number; behind the last there is no operation and a dash for a name, and any code and class will do
+-- what stands in a row; behind the last there is no operation and a dash for a name, and any code will do
 abbrev pub rowBuilt : ℕ → List Row → Built
 rowBuilt n rs = getD (map (λ (r : Row). As (r .operation) (r .class)) rs) n No
-
-abbrev pub codeAt : ℕ → List Row → ℕ
-codeAt n rs = getD (map (λ (r : Row). r .code) rs) n 0
-
-abbrev pub classAt : ℕ → List Row → Class
-classAt n rs = getD (map (λ (r : Row). r .class) rs) n Free
 
 abbrev pub nameAt : ℕ → List Row → List ℕ
 nameAt n rs = getD (map (λ (r : Row). r .name) rs) n (bytes "-         ")
 
--- the operation in a row, with a class
-abbrev pub builtAs : ℕ → Class → List Row → Built
-builtAs n k rs = getD (map (λ (r : Row). As (r .operation) k) rs) n No
+abbrev pub codeAt : ℕ → List Row → ℕ
+codeAt n rs = getD (map (λ (r : Row). r .code) rs) n 0

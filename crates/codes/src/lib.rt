@@ -1,6 +1,5 @@
 // The built codes: the project's one table of them, and how the code of an order is found in it. Each function that is shown here takes any
 // numbers.
-mod classes;
 mod keys;
 mod rows;
 mod slots;

@@ -4,9 +4,8 @@ use mathlib.Core.Path.{ap, _∙_}
 use native.Mathlib.Omega.{arith}
 use borrow.Author.Needs.{needs}
 use Rattle.rules.specs.Codes.{codes}
-use Rattle.rules.specs.declared.Class.{Class}
-use Rattle.codes.specs.Rows.{rowBuilt, builtAs}
-use Rattle.codes.proofs.Found.{found, classed, no-row}
+use Rattle.codes.specs.Rows.{rowBuilt}
+use Rattle.codes.proofs.Found.{found, no-row}
 use Rattle.codes.proofs.rows.look_up.Statement.{statement}
 use Rattle.codes.proofs.rows.look_up.Tie as tie
 
@@ -15,20 +14,13 @@ returns c =
     let start : tie.Start = search in
     let first : tie.After-row-of = search in
     let row : tie.After-row-at = search in
-    let i = first .row-of .result in
-    c .built-of .ensures
-    ∙ ap (λ (k : Class). builtAs i k codes) (row .row-at .ensures .1)
-    ∙ classed i codes
-    ∙ ap (λ (n : ℕ). rowBuilt n codes) (first .row-of .ensures .0)
-    ∙ found (start .args .code) codes
+    row .row-at .ensures .1 ∙ ap (λ (n : ℕ). rowBuilt n codes) (first .row-of .ensures .0) ∙ found (start .args .code) codes
 
 returns-2 : tie.Need-returns-2
 returns-2 c =
     let start : tie.Start = search in
     let first : tie.After-row-of = search in
-    no-row (first .row-of .result) (omega arith)
-    ∙ ap (λ (n : ℕ). rowBuilt n codes) (first .row-of .ensures .0)
-    ∙ found (start .args .code) codes
+    no-row (first .row-of .result) (omega arith) ∙ ap (λ (n : ℕ). rowBuilt n codes) (first .row-of .ensures .0) ∙ found (start .args .code) codes
 
 pub look-up-spec : {M : Type 1} → statement M
-look-up-spec = tie.close (tie.spec (λ c κs. search needs) (λ c κs. search needs) (λ c. search needs) (λ c κs. search needs) returns returns-2)
+look-up-spec = tie.close (tie.spec (λ c κs. search needs) (λ c κs. search needs) returns returns-2)

@@ -15,14 +15,14 @@ abbrev μ-loop : tie.MeasureT-loop
 loop-holds : tie.Need-loop-holds Inv-loop μ-loop
 loop-holds c = search-begin _
 
-row-at-requires : tie.Need-row-at-requires Inv-loop μ-loop
-row-at-requires c κs = omega arith
+code-at-requires : tie.Need-code-at-requires Inv-loop μ-loop
+code-at-requires c κs = omega arith
 
 returns : tie.Need-returns Inv-loop μ-loop
 returns c =
     let turn : tie.At-loop Inv-loop μ-loop = search in
-    let at : tie.After-row-at Inv-loop μ-loop = search in
-    (search-found _ _ (turn .loop .inv) (omega arith) (sym (at .row-at .ensures .0) ∙ c .if1 .taken), omega arith)
+    let at : tie.After-code-at Inv-loop μ-loop = search in
+    (search-found _ _ (turn .loop .inv) (omega arith) (sym (at .code-at .ensures) ∙ c .if1 .taken), omega arith)
 
 add-i : tie.Need-add-i Inv-loop μ-loop
 add-i c = omega arith
@@ -33,8 +33,8 @@ loop-less c = omega arith
 loop-again : tie.Need-loop-again Inv-loop μ-loop
 loop-again c =
     let turn : tie.At-loop Inv-loop μ-loop = search in
-    let at : tie.After-row-at Inv-loop μ-loop = search in
-    search-more _ _ (turn .loop .inv) (omega arith) (λ e. c .if1 .left (at .row-at .ensures .0 ∙ e))
+    let at : tie.After-code-at Inv-loop μ-loop = search in
+    search-more _ _ (turn .loop .inv) (omega arith) (λ e. c .if1 .left (at .code-at .ensures ∙ e))
 
 returns-2 : tie.Need-returns-2 Inv-loop μ-loop
 returns-2 c =
@@ -48,7 +48,7 @@ row-of-spec =
     Inv-loop
     μ-loop
     loop-holds
-    row-at-requires
+    code-at-requires
     returns
     add-i
     loop-less

@@ -1,13 +1,12 @@
--- `codes::slots::index` meets its contract: what is laid out in 36 turns is the row of each slot's code, with its class. Assumes nothing.
-use Prim.Native.Nat.{ℕ, _+_, _*_, _-_, _≤_}
+-- `codes::slots::index` meets its contract: what is laid out in 36 turns is the row of each slot's code. Assumes nothing.
+use Prim.Native.Nat.{ℕ, _-_, _≤_}
 use mathlib.Core.Path.{_≡_, refl, sym, ap, _∙_}
 use mathlib.Core.List.{List}
 use native.Mathlib.Omega.{arith}
 use lib.ListN.{length, getD, set}
-use Rattle.codes.specs.Classes.{classNumber}
 use Rattle.codes.specs.Slots.{indexFor}
 use Rattle.codes.proofs.Keyed.{slot-small}
-use Rattle.codes.proofs.Laid.{small, laidOut, laid-more, long-enough, laid-plain, laid-traced, indexed}
+use Rattle.codes.proofs.Laid.{laidOut, laid-more, long-enough, laid-plain, laid-traced, indexed}
 use Rattle.codes.proofs.slots.index.Statement.{statement}
 use Rattle.codes.proofs.slots.index.Tie as tie
 
@@ -21,33 +20,24 @@ loop-holds : tie.Need-loop-holds Inv-loop μ-loop
 unfolding laidOut
 loop-holds c = (refl, omega arith)
 
-row-at-requires : tie.Need-row-at-requires Inv-loop μ-loop
-row-at-requires c κs = c .loop-test .taken
+code-at-requires : tie.Need-code-at-requires Inv-loop μ-loop
+code-at-requires c κs = c .loop-test .taken
+
+slot-of-requires : tie.Need-slot-of-requires Inv-loop μ-loop
+slot-of-requires c κs = tt
 
 cast-index : tie.Need-cast-index Inv-loop μ-loop
 cast-index c = let turn : tie.In-loop Inv-loop μ-loop = search in omega (arith, turn .loop-test .taken)
 
 mul-index : tie.Need-mul-index Inv-loop μ-loop
-mul-index c = let turn : tie.In-loop Inv-loop μ-loop = search in omega (arith, turn .loop-test .taken)
-
--- a class has a number below 8
-add-index : tie.Need-add-index Inv-loop μ-loop
-add-index c =
-    let row : tie.After-row-at Inv-loop μ-loop = search in
-    let turn : tie.In-loop Inv-loop μ-loop = search in
-    omega (arith, turn .loop-test .taken, c .number-of .ensures, small (row .row-at .result .1))
-
-mul-index-2 : tie.Need-mul-index-2 Inv-loop μ-loop
-mul-index-2 c =
-    let slot : tie.After-slot-of Inv-loop μ-loop = search in
-    let row : tie.After-row-at Inv-loop μ-loop = search in
-    omega (arith, slot .slot-of .ensures, slot-small (row .row-at .result .0))
+mul-index c =
+    let code : tie.After-code-at Inv-loop μ-loop = search in
+    omega (arith, c .slot-of .ensures, slot-small (code .code-at .result))
 
 array-write-index : tie.Need-array-write-index Inv-loop μ-loop
 array-write-index c =
-    let slot : tie.After-slot-of Inv-loop μ-loop = search in
-    let row : tie.After-row-at Inv-loop μ-loop = search in
-    omega (arith, slot .slot-of .ensures, slot-small (row .row-at .result .0))
+    let code : tie.After-code-at Inv-loop μ-loop = search in
+    omega (arith, c .slot-of .ensures, slot-small (code .code-at .result))
 
 add-i : tie.Need-add-i Inv-loop μ-loop
 add-i c = let turn : tie.In-loop Inv-loop μ-loop = search in omega (arith, turn .loop-test .taken)
@@ -58,13 +48,9 @@ loop-less c = omega arith
 loop-again : tie.Need-loop-again Inv-loop μ-loop
 loop-again c =
     let turn : tie.At-loop Inv-loop μ-loop = search in
-    let row : tie.After-row-at Inv-loop μ-loop = search in
-    let slot : tie.After-slot-of Inv-loop μ-loop = search in
-    let v = turn .loop .inv in (
-      laid-more _ _ _ _ _ (v .0) (slot .slot-of .ensures) (row .row-at .ensures .0)
-          (ap (λ (n : ℕ). 8 * turn .loop .i + n) (c .number-of .ensures ∙ ap classNumber (row .row-at .ensures .1))),
-      omega (arith, v .1),
-    )
+    let code : tie.After-code-at Inv-loop μ-loop = search in
+    let v = turn .loop .inv in
+    (laid-more _ _ _ _ (v .0) (c .slot-of .ensures) (code .code-at .ensures), omega (arith, v .1))
 
 array-read-index : tie.Need-array-read-index Inv-loop μ-loop
 array-read-index c =
@@ -97,13 +83,10 @@ index-spec =
     Inv-loop
     μ-loop
     loop-holds
-    row-at-requires
-    (λ c κs. tt)
+    code-at-requires
+    slot-of-requires
     cast-index
     mul-index
-    (λ c κs. tt)
-    add-index
-    mul-index-2
     array-write-index
     add-i
     loop-less
