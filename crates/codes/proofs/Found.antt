@@ -13,7 +13,7 @@ use Rattle.rules.specs.Words.{pick}
 use Rattle.rules.specs.Codes.{Row, codes, lookup, nameIn}
 use Rattle.rules.specs.declared.Built.{Built}
 use Rattle.rules.specs.declared.Built.the-variants.{As, No}
-use Rattle.codes.specs.Rows.{rowIn, rowBuilt, nameAt, codeAt, builtOf}
+use Rattle.codes.specs.Rows.{rowIn, rowBuilt, nameAt, codeAt}
 
 pub found : (k : ℕ) (rs : List Row) → rowBuilt (rowIn k rs) rs ≡ lookup k rs
 unfolding lookup rowIn
@@ -41,19 +41,18 @@ unbuilt [] n l = refl
 unbuilt (r ∷ rs) zero l = let z : ⊥ = omega arith in absurd z
 unbuilt (r ∷ rs) (suc n) l = unbuilt rs n (le-of-suc-le-suc l)
 
--- none of the numbers from 1 to n
-abbrev pub NoneUpTo : ℕ → ℕ → Type 0
-NoneUpTo zero x = Unit {0}
-NoneUpTo (suc n) x = NoneUpTo n x × (x ≡ suc n → ⊥)
+pub no-row : (n : ℕ) → 36 ≤ n → No ≡ rowBuilt n codes
+unfolding codes
+no-row n l = unbuilt codes n l
 
-past : (n x : ℕ) → NoneUpTo n (suc x) → n ≤ x
+-- none of the numbers below n
+abbrev pub NoneBelow : ℕ → ℕ → Type 0
+NoneBelow zero x = Unit {0}
+NoneBelow (suc n) x = NoneBelow n x × (x ≡ n → ⊥)
+
+pub past : (n x : ℕ) → NoneBelow n x → n ≤ x
 past zero x t = omega arith
 past (suc n) x t = let p : n ≤ x = past n x (t .0) in omega (arith, t .1)
-
-pub no-row : (n : ℕ) → NoneUpTo 36 n → No ≡ builtOf n
-unfolding builtOf codes
-no-row zero t = refl
-no-row (suc n) t = unbuilt codes n (past 36 n t)
 
 -- ---- the search for the row of a code: what is left of the table has the answer of the whole
 

@@ -11,25 +11,25 @@ use borrow.Author.Tests.{lt-ltb}
 use lib.ListN.{length, getD, set, replicate, length-set}
 use Rattle.rules.specs.Codes.{codes, lookup}
 use Rattle.rules.specs.declared.Built.{Built}
-use Rattle.codes.specs.Rows.{rowIn, codeAt, builtOf}
+use Rattle.codes.specs.Rows.{rowIn, rowBuilt, codeAt}
 use Rattle.codes.specs.Keys.{keyIn, slotOf, codeOfSlot}
 use Rattle.codes.specs.Slots.{doneAs, entryAt, listed, indexFor, builtIn, Indexed}
 use Rattle.codes.proofs.Found.{found}
 use Rattle.codes.proofs.Keyed.{slot-small, slot-code}
 
 unfoldable pub laidOut : ℕ → List ℕ
-laidOut zero = replicate 1010 37
-laidOut (suc n) = set (laidOut n) (slotOf (codeAt n codes)) (suc n)
+laidOut zero = replicate 1010 36
+laidOut (suc n) = set (laidOut n) (slotOf (codeAt n codes)) n
 
-pub laid-more : (n : ℕ) (index : List ℕ) (slot code row : ℕ) → index ≡ laidOut n → slot ≡ slotOf code → code ≡ codeAt n codes → row ≡ n + 1
-    → set index slot row ≡ laidOut (n + 1)
+pub laid-more : (n : ℕ) (index : List ℕ) (slot code : ℕ) → index ≡ laidOut n → slot ≡ slotOf code → code ≡ codeAt n codes
+    → set index slot n ≡ laidOut (n + 1)
 unfolding laidOut
-laid-more n index slot code row e s k r = rw (add-one n) (λ i. set (e i) ((s ∙ ap slotOf k) i) ((r ∙ add-one n) i))
+laid-more n index slot code e s k = rw (add-one n) (λ i. set (e i) ((s ∙ ap slotOf k) i) n)
 
 pub long-enough : (n : ℕ) → length (laidOut n) ≡ 1010
 unfolding laidOut
 long-enough zero = refl
-long-enough (suc n) = length-set (laidOut n) (slotOf (codeAt n codes)) (suc n) ∙ long-enough n
+long-enough (suc n) = length-set (laidOut n) (slotOf (codeAt n codes)) n ∙ long-enough n
 
 pub laid-plain : laidOut 36 ≡ indexFor false
 unfolding laidOut codes rowIn slotOf listed
@@ -48,10 +48,10 @@ behind rule i (suc n) zero l = ap rule (sym (add-zero i))
 behind rule i (suc n) (suc k) l = behind rule (suc i) n k (le-of-suc-le-suc l) ∙ ap rule (suc-add i k ∙ sym (add-suc i k))
 
 at-slot : (t : Bool) (j : ℕ) → j ≤ 1009 → builtIn (indexFor t) j ≡ lookup (doneAs t (codeOfSlot j)) codes
-unfolding builtOf
 at-slot t j l =
     let m : j < 1010 = omega arith in
-    simp (lt-ltb j 1010 m) (ap builtOf (behind (entryAt t) 0 1010 j m ∙ ap (entryAt t) (zero-add j)) ∙ found (doneAs t (codeOfSlot j)) codes)
+    simp (lt-ltb j 1010 m)
+    (ap (λ (n : ℕ). rowBuilt n codes) (behind (entryAt t) 0 1010 j m ∙ ap (entryAt t) (zero-add j)) ∙ found (doneAs t (codeOfSlot j)) codes)
 
 pub indexed : (t : Bool) (index : List ℕ) → index ≡ indexFor t → Indexed t index
 indexed t index e = record {

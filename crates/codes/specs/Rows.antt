@@ -1,11 +1,11 @@
 -- The table of built codes by the number of its row. Assumes nothing.
-use Prim.Native.Nat.{ℕ, zero, suc}
+use Prim.Native.Nat.{ℕ, suc}
 use mathlib.Core.List.{List, [], _∷_, map}
 use lib.Dec.{eqb}
 use lib.ListN.{getD}
 use Rattle.rules.specs.Words.{pick}
 use Rattle.rules.specs.Bytes.{bytes}
-use Rattle.rules.specs.Codes.{Row, codes}
+use Rattle.rules.specs.Codes.{Row}
 use Rattle.rules.specs.declared.Built.{Built}
 use Rattle.rules.specs.declared.Built.the-variants.{As, No}
 
@@ -23,8 +23,3 @@ nameAt n rs = getD (map (λ (r : Row). r .name) rs) n (bytes "-         ")
 
 abbrev pub codeAt : ℕ → List Row → ℕ
 codeAt n rs = getD (map (λ (r : Row). r .code) rs) n 0
-
--- what an entry of an index means: a row, counted from 1
-unfoldable pub builtOf : ℕ → Built
-builtOf zero = No
-builtOf (suc n) = rowBuilt n codes

@@ -1,4 +1,4 @@
--- The table laid out by slots: at each the row, counted from 1, of the code that the slot's code is done as. Assumes nothing.
+-- The table laid out by slots: at each the row of the code that the slot's code is done as. Assumes nothing.
 use Prim.Native.Nat.{ℕ, zero, suc}
 use mathlib.Core.Path.{_≡_}
 use mathlib.Core.Bool.{Bool}
@@ -10,7 +10,7 @@ use Rattle.rules.specs.Codes.{codes, lookup, pchCode, noopCode}
 use Rattle.rules.specs.Running.{codeDone}
 use Rattle.rules.specs.declared.Built.{Built}
 use Rattle.rules.specs.declared.Built.the-variants.{No}
-use Rattle.codes.specs.Rows.{rowIn, builtOf}
+use Rattle.codes.specs.Rows.{rowIn, rowBuilt}
 use Rattle.codes.specs.Keys.{keyIn, slotOf, codeOfSlot}
 
 -- in traced mode PCH is NOOP
@@ -18,7 +18,7 @@ abbrev pub doneAs : Bool → ℕ → ℕ
 doneAs t k = pick (both t (eqb k pchCode)) noopCode k
 
 abbrev pub entryAt : Bool → ℕ → ℕ
-entryAt t j = suc (rowIn (doneAs t (codeOfSlot j)) codes)
+entryAt t j = rowIn (doneAs t (codeOfSlot j)) codes
 
 -- what a rule says of n places, the first of them i
 unfoldable pub listed : (ℕ → ℕ) → ℕ → ℕ → List ℕ
@@ -30,7 +30,7 @@ indexFor t = listed (entryAt t) 0 1010
 
 -- what an index has at a slot; nothing behind its last
 abbrev pub builtIn : List ℕ → ℕ → Built
-builtIn index slot = pick (ltb slot 1010) (builtOf (getD index slot 0)) No
+builtIn index slot = pick (ltb slot 1010) (rowBuilt (getD index slot 0) codes) No
 
 -- an index for this mode, and what each order finds in it
 pub record Indexed (t : Bool) (index : List ℕ) : Type 0 where

@@ -2,139 +2,224 @@
 ghost use mathlib.Core.Path.{_≡_};
 ghost use Prim.Native.Nat.{_<_, _≤_};
 ghost use Rattle.rules.specs.Codes.{codes, lookup, nameIn};
-ghost use Rattle.codes.specs.Rows.{codeAt, nameAt, rowIn, builtOf};
-use rules::Address;
+ghost use Rattle.rules.specs.declared.Built.the-variants.{As};
+ghost use Rattle.codes.specs.Rows.{codeAt, nameAt, rowIn, rowBuilt};
+use rules::Address::OfA;
+use rules::Address::OfB;
+use rules::Address::OfC;
 use rules::Built;
-use rules::Changing;
+use rules::Changing::AddTo;
+use rules::Changing::SetTo;
+use rules::Changing::SubFrom;
 use rules::Class;
-use rules::Going;
+use rules::Class::BlockIn;
+use rules::Class::BlockOut;
+use rules::Class::Changed;
+use rules::Class::Free;
+use rules::Class::Linked;
+use rules::Class::OneNumber;
+use rules::Class::OneWord;
+use rules::Class::TwoNumbers;
+use rules::Going::CondStop;
+use rules::Going::Noop;
+use rules::Going::Tr;
+use rules::Going::TrExp;
+use rules::Going::TrSgn;
+use rules::Going::TrSubr;
+use rules::Going::UncStop;
 use rules::Operation;
-use rules::Reckoning;
-use rules::Tracing;
+use rules::Operation::Change;
+use rules::Operation::Go;
+use rules::Operation::Loop;
+use rules::Operation::Move;
+use rules::Operation::Pch;
+use rules::Operation::Read;
+use rules::Operation::Reckon;
+use rules::Operation::Trace;
+use rules::Reckoning::Abs;
+use rules::Reckoning::Add;
+use rules::Reckoning::Div;
+use rules::Reckoning::Mpy;
+use rules::Reckoning::Ngmpy;
+use rules::Reckoning::Sqrt;
+use rules::Reckoning::Sub;
+use rules::Tracing::StTrEras;
+use rules::Tracing::StartTr;
+use rules::Tracing::StopTr;
 
-// A row: a code and its name. What the code is stands at the row's number, in `built_of`.
-struct Row(u64, [u8; 10]);
+// A row: a code, its operation, the class of its operands, and its name.
+struct Row(u64, Operation, Class, [u8; 10]);
 
+const ADD: Row = Row(1_000, Reckon(Add), TwoNumbers, *b"ADD       ");
+
+const SUB: Row = Row(2_000, Reckon(Sub), TwoNumbers, *b"SUB       ");
+
+const MPY: Row = Row(3_000, Reckon(Mpy), TwoNumbers, *b"MPY       ");
+
+const DIV: Row = Row(4_000, Reckon(Div), TwoNumbers, *b"DIV       ");
+
+const NGMPY: Row = Row(5_000, Reckon(Ngmpy), TwoNumbers, *b"NGMPY     ");
+
+const MOVE: Row = Row(9_000, Move, OneWord, *b"MOVE      ");
+
+const UNC_STOP: Row = Row(0, Go(UncStop), Free, *b"UNC STOP  ");
+
+const COND_STOP: Row = Row(200, Go(CondStop), Free, *b"COND STOP ");
+
+const TR_SGN: Row = Row(201, Go(TrSgn), Free, *b"TR SGN    ");
+
+const TR_EXP: Row = Row(202, Go(TrExp), Free, *b"TR EXP    ");
+
+const TR: Row = Row(203, Go(Tr), Free, *b"TR        ");
+
+const TR_SUBR: Row = Row(204, Go(TrSubr), Linked, *b"TR SUBR   ");
+
+const LOOP_A: Row = Row(100, Loop(true, false, false), Free, *b"LOOP A    ");
+
+const LOOP_B: Row = Row(10, Loop(false, true, false), Free, *b"LOOP B    ");
+
+const LOOP_C: Row = Row(1, Loop(false, false, true), Free, *b"LOOP C    ");
+
+const LOOP_AB: Row = Row(110, Loop(true, true, false), Free, *b"LOOP AB   ");
+
+const LOOP_AC: Row = Row(101, Loop(true, false, true), Free, *b"LOOP AC   ");
+
+const LOOP_BC: Row = Row(11, Loop(false, true, true), Free, *b"LOOP BC   ");
+
+const LOOP_ABC: Row = Row(111, Loop(true, true, true), Free, *b"LOOP ABC  ");
+
+const SET_A: Row = Row(500, Change(SetTo, OfA), Changed, *b"SET A     ");
+
+const SET_B: Row = Row(50, Change(SetTo, OfB), Changed, *b"SET B     ");
+
+const SET_C: Row = Row(5, Change(SetTo, OfC), Changed, *b"SET C     ");
+
+const ADD_A: Row = Row(600, Change(AddTo, OfA), Changed, *b"ADD A     ");
+
+const ADD_B: Row = Row(60, Change(AddTo, OfB), Changed, *b"ADD B     ");
+
+const ADD_C: Row = Row(6, Change(AddTo, OfC), Changed, *b"ADD C     ");
+
+const SUB_A: Row = Row(700, Change(SubFrom, OfA), Changed, *b"SUB A     ");
+
+const SUB_B: Row = Row(70, Change(SubFrom, OfB), Changed, *b"SUB B     ");
+
+const SUB_C: Row = Row(7, Change(SubFrom, OfC), Changed, *b"SUB C     ");
+
+const SQRT: Row = Row(300, Reckon(Sqrt), OneNumber, *b"SQRT      ");
+
+const ABS: Row = Row(350, Reckon(Abs), OneNumber, *b"ABS       ");
+
+const READ: Row = Row(400, Read, BlockIn, *b"READ      ");
+
+const PCH: Row = Row(410, Pch, BlockOut, *b"PCH       ");
+
+const START_TR: Row = Row(450, Trace(StartTr), Free, *b"START TR  ");
+
+const STOP_TR: Row = Row(451, Trace(StopTr), Free, *b"STOP TR   ");
+
+const ST_TR_ERAS: Row = Row(452, Trace(StTrEras), Free, *b"ST TR ERAS");
+
+const NOOP: Row = Row(454, Go(Noop), Free, *b"NOOP      ");
+
+// The table.
 const ROWS: [Row; 36] = [
-    Row(1_000, *b"ADD       "),
-    Row(2_000, *b"SUB       "),
-    Row(3_000, *b"MPY       "),
-    Row(4_000, *b"DIV       "),
-    Row(5_000, *b"NGMPY     "),
-    Row(9_000, *b"MOVE      "),
-    Row(0, *b"UNC STOP  "),
-    Row(200, *b"COND STOP "),
-    Row(201, *b"TR SGN    "),
-    Row(202, *b"TR EXP    "),
-    Row(203, *b"TR        "),
-    Row(204, *b"TR SUBR   "),
-    Row(100, *b"LOOP A    "),
-    Row(10, *b"LOOP B    "),
-    Row(1, *b"LOOP C    "),
-    Row(110, *b"LOOP AB   "),
-    Row(101, *b"LOOP AC   "),
-    Row(11, *b"LOOP BC   "),
-    Row(111, *b"LOOP ABC  "),
-    Row(500, *b"SET A     "),
-    Row(50, *b"SET B     "),
-    Row(5, *b"SET C     "),
-    Row(600, *b"ADD A     "),
-    Row(60, *b"ADD B     "),
-    Row(6, *b"ADD C     "),
-    Row(700, *b"SUB A     "),
-    Row(70, *b"SUB B     "),
-    Row(7, *b"SUB C     "),
-    Row(300, *b"SQRT      "),
-    Row(350, *b"ABS       "),
-    Row(400, *b"READ      "),
-    Row(410, *b"PCH       "),
-    Row(450, *b"START TR  "),
-    Row(451, *b"STOP TR   "),
-    Row(452, *b"ST TR ERAS"),
-    Row(454, *b"NOOP      "),
+    ADD,
+    SUB,
+    MPY,
+    DIV,
+    NGMPY,
+    MOVE,
+    UNC_STOP,
+    COND_STOP,
+    TR_SGN,
+    TR_EXP,
+    TR,
+    TR_SUBR,
+    LOOP_A,
+    LOOP_B,
+    LOOP_C,
+    LOOP_AB,
+    LOOP_AC,
+    LOOP_BC,
+    LOOP_ABC,
+    SET_A,
+    SET_B,
+    SET_C,
+    ADD_A,
+    ADD_B,
+    ADD_C,
+    SUB_A,
+    SUB_B,
+    SUB_C,
+    SQRT,
+    ABS,
+    READ,
+    PCH,
+    START_TR,
+    STOP_TR,
+    ST_TR_ERAS,
+    NOOP,
 ];
-
-// What the row with this number is, counted from 1; no row has the number 0.
-pub(crate) fn built_of(row: u16) -> Built
-    ensures { λ r. ⌜ r ≡ builtOf row ⌝ }
-{
-    match row {
-        1 => Built::As(Operation::Reckon(Reckoning::Add), Class::TwoNumbers),
-        2 => Built::As(Operation::Reckon(Reckoning::Sub), Class::TwoNumbers),
-        3 => Built::As(Operation::Reckon(Reckoning::Mpy), Class::TwoNumbers),
-        4 => Built::As(Operation::Reckon(Reckoning::Div), Class::TwoNumbers),
-        5 => Built::As(Operation::Reckon(Reckoning::Ngmpy), Class::TwoNumbers),
-        6 => Built::As(Operation::Move, Class::OneWord),
-        7 => Built::As(Operation::Go(Going::UncStop), Class::Free),
-        8 => Built::As(Operation::Go(Going::CondStop), Class::Free),
-        9 => Built::As(Operation::Go(Going::TrSgn), Class::Free),
-        10 => Built::As(Operation::Go(Going::TrExp), Class::Free),
-        11 => Built::As(Operation::Go(Going::Tr), Class::Free),
-        12 => Built::As(Operation::Go(Going::TrSubr), Class::Linked),
-        13 => Built::As(Operation::Loop(true, false, false), Class::Free),
-        14 => Built::As(Operation::Loop(false, true, false), Class::Free),
-        15 => Built::As(Operation::Loop(false, false, true), Class::Free),
-        16 => Built::As(Operation::Loop(true, true, false), Class::Free),
-        17 => Built::As(Operation::Loop(true, false, true), Class::Free),
-        18 => Built::As(Operation::Loop(false, true, true), Class::Free),
-        19 => Built::As(Operation::Loop(true, true, true), Class::Free),
-        20 => Built::As(
-            Operation::Change(Changing::SetTo, Address::OfA),
-            Class::Changed,
-        ),
-        21 => Built::As(
-            Operation::Change(Changing::SetTo, Address::OfB),
-            Class::Changed,
-        ),
-        22 => Built::As(
-            Operation::Change(Changing::SetTo, Address::OfC),
-            Class::Changed,
-        ),
-        23 => Built::As(
-            Operation::Change(Changing::AddTo, Address::OfA),
-            Class::Changed,
-        ),
-        24 => Built::As(
-            Operation::Change(Changing::AddTo, Address::OfB),
-            Class::Changed,
-        ),
-        25 => Built::As(
-            Operation::Change(Changing::AddTo, Address::OfC),
-            Class::Changed,
-        ),
-        26 => Built::As(
-            Operation::Change(Changing::SubFrom, Address::OfA),
-            Class::Changed,
-        ),
-        27 => Built::As(
-            Operation::Change(Changing::SubFrom, Address::OfB),
-            Class::Changed,
-        ),
-        28 => Built::As(
-            Operation::Change(Changing::SubFrom, Address::OfC),
-            Class::Changed,
-        ),
-        29 => Built::As(Operation::Reckon(Reckoning::Sqrt), Class::OneNumber),
-        30 => Built::As(Operation::Reckon(Reckoning::Abs), Class::OneNumber),
-        31 => Built::As(Operation::Read, Class::BlockIn),
-        32 => Built::As(Operation::Pch, Class::BlockOut),
-        33 => Built::As(Operation::Trace(Tracing::StartTr), Class::Free),
-        34 => Built::As(Operation::Trace(Tracing::StopTr), Class::Free),
-        35 => Built::As(Operation::Trace(Tracing::StTrEras), Class::Free),
-        36 => Built::As(Operation::Go(Going::Noop), Class::Free),
-        _ => Built::No,
-    }
-}
 
 // The row with this number, counted from 0.
 fn row_at(i: usize) -> Row
     requires { ⌜ i < 36 ⌝ }
-    ensures { λ r. ⌜ (r .0 ≡ codeAt i codes) × (r .1 ≡ nameAt i codes) ⌝ }
+    ensures { λ r. ⌜ (r .0 ≡ codeAt i codes) × (As (r .1) (r .2) ≡ rowBuilt i codes) × (r .3 ≡ nameAt i codes) ⌝ }
 {
     ROWS[i]
 }
 
-// Its code.
+// What the row with this number is; behind the last nothing is built. The interpreter asks for each order, so the row is named here and not
+// taken out of the array, which the compiler would build anew each time.
+pub(crate) fn built_of(i: u16) -> Built
+    ensures { λ r. ⌜ r ≡ rowBuilt i codes ⌝ }
+{
+    let row = match i {
+        0 => ADD,
+        1 => SUB,
+        2 => MPY,
+        3 => DIV,
+        4 => NGMPY,
+        5 => MOVE,
+        6 => UNC_STOP,
+        7 => COND_STOP,
+        8 => TR_SGN,
+        9 => TR_EXP,
+        10 => TR,
+        11 => TR_SUBR,
+        12 => LOOP_A,
+        13 => LOOP_B,
+        14 => LOOP_C,
+        15 => LOOP_AB,
+        16 => LOOP_AC,
+        17 => LOOP_BC,
+        18 => LOOP_ABC,
+        19 => SET_A,
+        20 => SET_B,
+        21 => SET_C,
+        22 => ADD_A,
+        23 => ADD_B,
+        24 => ADD_C,
+        25 => SUB_A,
+        26 => SUB_B,
+        27 => SUB_C,
+        28 => SQRT,
+        29 => ABS,
+        30 => READ,
+        31 => PCH,
+        32 => START_TR,
+        33 => STOP_TR,
+        34 => ST_TR_ERAS,
+        35 => NOOP,
+        _ => return Built::No,
+    };
+    let operation = row.1;
+    let class = row.2;
+    Built::As(operation, class)
+}
+
+// The code of the row with this number.
 pub(crate) fn code_at(i: usize) -> u64
     requires { ⌜ i < 36 ⌝ }
     ensures { λ r. ⌜ r ≡ codeAt i codes ⌝ }
@@ -162,7 +247,13 @@ pub fn look_up(code: u64) -> Built
     ensures { λ r. ⌜ r ≡ lookup code codes ⌝ }
 {
     let i = row_of(code);
-    built_of(i as u16 + 1)
+    if i < 36 {
+        let row = row_at(i);
+        let operation = row.1;
+        let class = row.2;
+        return Built::As(operation, class);
+    }
+    Built::No
 }
 
 // The newsletter's name of a code.
@@ -172,7 +263,7 @@ pub fn name_of(code: u64) -> [u8; 10]
     let i = row_of(code);
     if i < 36 {
         let row = row_at(i);
-        return row.1;
+        return row.3;
     }
     *b"-         "
 }

@@ -21,7 +21,7 @@ returns c =
     let start : tie.Start = search in
     let row : tie.After-row-of = search in
     let at : tie.After-row-at = search in
-    at .row-at .ensures .1 ∙ ap (λ (n : ℕ). nameAt n codes) (row .row-of .ensures .0) ∙ named (start .args .code) codes
+    at .row-at .ensures .2 ∙ ap (λ (n : ℕ). nameAt n codes) (row .row-of .ensures .0) ∙ named (start .args .code) codes
 
 -- behind the last row
 dash : (n : ℕ) → n ≡ 36 → bytes "-         " ≡ nameAt n codes

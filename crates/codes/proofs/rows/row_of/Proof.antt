@@ -37,7 +37,9 @@ loop-again c =
     search-more _ _ (turn .loop .inv) (omega arith) (λ e. c .if1 .left (at .code-at .ensures ∙ e))
 
 returns-2 : tie.Need-returns-2 Inv-loop μ-loop
-returns-2 c = (search-end _ _ (c .before .loop .inv) (omega arith), c .before .loop .inv .upto)
+returns-2 c =
+    let turn : tie.At-loop Inv-loop μ-loop = search in
+    (search-end _ _ (turn .loop .inv) (omega arith), turn .loop .inv .upto)
 
 pub row-of-spec : {M : Type 1} → statement M
 row-of-spec =

@@ -1,5 +1,5 @@
 -- `codes::slots::index` meets its contract: what is laid out in 36 turns is the row of each slot's code. Assumes nothing.
-use Prim.Native.Nat.{ℕ, suc, _+_, _-_, _≤_}
+use Prim.Native.Nat.{ℕ, _-_, _≤_}
 use mathlib.Core.Path.{_≡_, refl, sym, ap, _∙_}
 use mathlib.Core.List.{List}
 use native.Mathlib.Omega.{arith}
@@ -11,14 +11,14 @@ use Rattle.codes.proofs.slots.index.Statement.{statement}
 use Rattle.codes.proofs.slots.index.Tie as tie
 
 abbrev Inv-loop : tie.InvT-loop
-Inv-loop traced index₀ i₀ row₀ index i row = (index ≡ laidOut i) × (i ≤ 36) × (row ≡ i + 1)
+Inv-loop traced index₀ i₀ index i = (index ≡ laidOut i) × (i ≤ 36)
 
 abbrev μ-loop : tie.MeasureT-loop
-μ-loop traced index₀ i₀ row₀ index i row = 36 - i
+μ-loop traced index₀ i₀ index i = 36 - i
 
 loop-holds : tie.Need-loop-holds Inv-loop μ-loop
 unfolding laidOut
-loop-holds c = (refl, omega arith, refl)
+loop-holds c = (refl, omega arith)
 
 code-at-requires : tie.Need-code-at-requires Inv-loop μ-loop
 code-at-requires c κs = c .loop-test .taken
@@ -26,19 +26,21 @@ code-at-requires c κs = c .loop-test .taken
 slot-of-requires : tie.Need-slot-of-requires Inv-loop μ-loop
 slot-of-requires c κs = tt
 
+cast-index : tie.Need-cast-index Inv-loop μ-loop
+cast-index c = let turn : tie.In-loop Inv-loop μ-loop = search in omega (arith, turn .loop-test .taken)
+
 mul-index : tie.Need-mul-index Inv-loop μ-loop
 mul-index c =
-    let slot : tie.After-slot-of Inv-loop μ-loop = search in
-    omega (arith, slot .slot-of .ensures, slot-small (slot .before .code-at .result))
+    let code : tie.After-code-at Inv-loop μ-loop = search in
+    omega (arith, c .slot-of .ensures, slot-small (code .code-at .result))
 
 array-write-index : tie.Need-array-write-index Inv-loop μ-loop
-array-write-index c = omega (arith, c .slot-of .ensures, slot-small (c .before .code-at .result))
-
-add-row : tie.Need-add-row Inv-loop μ-loop
-add-row c = let turn : tie.At-loop Inv-loop μ-loop = search in omega (arith, turn .loop .inv)
+array-write-index c =
+    let code : tie.After-code-at Inv-loop μ-loop = search in
+    omega (arith, c .slot-of .ensures, slot-small (code .code-at .result))
 
 add-i : tie.Need-add-i Inv-loop μ-loop
-add-i c = let turn : tie.At-loop Inv-loop μ-loop = search in omega (arith, turn .loop .inv)
+add-i c = let turn : tie.In-loop Inv-loop μ-loop = search in omega (arith, turn .loop-test .taken)
 
 loop-less : tie.Need-loop-less Inv-loop μ-loop
 loop-less c = omega arith
@@ -48,7 +50,7 @@ loop-again c =
     let turn : tie.At-loop Inv-loop μ-loop = search in
     let code : tie.After-code-at Inv-loop μ-loop = search in
     let v = turn .loop .inv in
-    (laid-more _ _ _ _ _ (v .0) (c .slot-of .ensures) (code .code-at .ensures) (v .2), omega (arith, v .1), omega (arith, v .2))
+    (laid-more _ _ _ _ (v .0) (c .slot-of .ensures) (code .code-at .ensures), omega (arith, v .1))
 
 array-read-index : tie.Need-array-read-index Inv-loop μ-loop
 array-read-index c =
@@ -63,13 +65,15 @@ array-write-index-2 c =
 returns : tie.Need-returns Inv-loop μ-loop
 returns c =
     let turn : tie.At-loop Inv-loop μ-loop = search in
-    let n : turn .loop .i ≡ 36 = omega (arith, turn .loop .inv .1, c .before .loop-test .left) in
+    let after : tie.After-loop Inv-loop μ-loop = search in
+    let n : turn .loop .i ≡ 36 = omega (arith, turn .loop .inv .1, after .loop-test .left) in
     indexed _ _ (ap (λ (l : List ℕ). set l 410 (getD l 454 0)) (turn .loop .inv .0 ∙ ap laidOut n) ∙ laid-traced ∙ ap indexFor (sym (c .if1 .taken)))
 
 returns-2 : tie.Need-returns-2 Inv-loop μ-loop
 returns-2 c =
     let turn : tie.At-loop Inv-loop μ-loop = search in
-    let n : turn .loop .i ≡ 36 = omega (arith, turn .loop .inv .1, c .before .loop-test .left) in
+    let after : tie.After-loop Inv-loop μ-loop = search in
+    let n : turn .loop .i ≡ 36 = omega (arith, turn .loop .inv .1, after .loop-test .left) in
     indexed _ _ (turn .loop .inv .0 ∙ ap laidOut n ∙ laid-plain ∙ ap indexFor (sym (c .if1 .left)))
 
 pub index-spec : {M : Type 1} → statement M
@@ -81,9 +85,9 @@ index-spec =
     loop-holds
     code-at-requires
     slot-of-requires
+    cast-index
     mul-index
     array-write-index
-    add-row
     add-i
     loop-less
     loop-again
