@@ -291,7 +291,13 @@ each_call() {
     (before=$made/stop.so && l1 "$@") >new.out 2>err 9>count || fail "l1 $*: ended badly"
     cp m.machine new.machine
     cmp -s old.machine new.machine && fail "l1 $*: changes nothing"
-    count=$(cat count)
+    count=$(sed -n 1p count)
+    # the deck and the file are closed; a run's cards go out; the new file is made, written, flushed, closed and renamed; then the Z card
+    case $1:$(sed -n 2p count) in
+    load:ccmwscr | run:cco*mwscro) ;;
+    *) fail "l1 $*: calls of the system: $(sed -n 2p count)" ;;
+    esac
+    [ "$(stat -c %a m.machine)" = 600 ] || fail "l1 $*: others have rights on the machine file"
     was_old=0 was_new=0 k=0
     while [ "$k" -lt "$count" ]; do
         k=$((k + 1))
@@ -322,6 +328,7 @@ stopped() {
     build_before stop.so "$root/tests/tool/stop.c" || fail 'no library'
     punch_deck >punch.deck
     l1 new old.machine || fail 'no machine file'
+    [ "$(stat -c %a old.machine)" = 600 ] || fail 'others have rights on a new machine file'
     each_call load m.machine sum.deck
     cp new.machine old.machine
     each_call run m.machine sum.deck
