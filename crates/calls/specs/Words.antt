@@ -1,5 +1,6 @@
 -- What the words of a call mean. Assumes nothing.
-use Prim.Native.Nat.{ℕ, min}
+use Prim.Native.Nat.{ℕ, _+_, _-_, _≤_, min}
+use mathlib.Core.Path.{_≡_}
 use mathlib.Core.List.{List, [], _∷_}
 use mathlib.Core.Bool.{Bool, true, false}
 use lib.Dec.{eqb, ltb}
@@ -8,6 +9,7 @@ use Rattle.rules.specs.Bytes.{bytes}
 use Rattle.rules.specs.Words.{pick, both}
 use Rattle.rules.specs.Cards.{isDigit}
 use Rattle.bytes.specs.Longer.{withDigit}
+use Rattle.rules.specs.declared.Switches.{Switches}
 use Rattle.calls.specs.declared.words.Command.{Command}
 use Rattle.calls.specs.declared.words.Command.the-variants.{Session, New, Load, Run, Deck, List as ListCards, Cells, Unknown}
 use Rattle.calls.specs.declared.words.Asked.{Asked}
@@ -175,3 +177,41 @@ behindNames Deck count = 3
 behindNames ListCards count = 3
 behindNames Cells count = 3
 behindNames Unknown count = 3
+
+-- ---- what a call asks for
+
+-- in a call of so many words, before the first of them behind the names: not to be obeyed where a name is missing
+abbrev pub isMissing : Command → ℕ → Bool
+isMissing c count = ltb count (behindNames c count)
+
+abbrev pub startOf : Command → ℕ → Options
+startOf c count = pick (isMissing c count) (spoiltOf (formOf c)) (formOf c)
+
+-- with one word more: a word that is wrong spoils the call
+abbrev pub isFine : Trouble → Bool
+isFine Fine = true
+isFine Stray = false
+isFine Twice = false
+isFine NotNumber = false
+
+abbrev pub withNext : Options → Asked → Options
+withNext o x = pick (isFine (troubleOf o x)) (withWord o x) (spoiltOf o)
+
+-- with words more, one after another, each by its bytes
+unfoldable pub withAll : Options → List (List ℕ) → Options
+withAll o [] = o
+withAll o (w ∷ ws) = withAll (withNext o (askedBy w)) ws
+
+-- what a call of so many words asks for: some words were read, and all from the one place to the other unless one of them is wrong
+pub record Read (form : Options) (from count : ℕ) (r : Options) : Type 0 where
+  pub words : List (List ℕ)
+  pub all-taken : r ≡ withAll form words
+  pub no-more : length words ≤ count - from
+  pub no-fewer : r .good ≡ true → length words ≡ count - from
+
+-- whether the load is a traced one, and the console's switches
+abbrev pub isTraced : Options → Bool
+isTraced o = isGiven (o .traced)
+
+abbrev pub switchesOf : Options → Switches
+switchesOf o = record { stop = isGiven (o .stop) }

@@ -1,8 +1,10 @@
 // What a call asks for beside its files: which words its command takes, and what those that came say.
 ghost use mathlib.Core.Path.{_≡_};
-ghost use Rattle.calls.specs.Words.{takes, formOf, atTurn, troubleOf, withTraced, withStop, withBudget, withWord, spoiltOf, isGiven};
+ghost use Rattle.calls.specs.Words.{takes, formOf, atTurn, troubleOf, withTraced, withStop, withBudget, withWord, spoiltOf, isGiven, isMissing, startOf, isFine, withNext, isTraced, switchesOf};
 use crate::words::Asked;
 use crate::words::Command;
+use crate::words::behind_names;
+use rules::Switches;
 
 // Whether a word may come: not with this command, or once, or no more.
 pub enum Turn {
@@ -42,7 +44,7 @@ fn taking(traced: Turn, stop: Turn, limit: Turn) -> Options
 }
 
 // What a command takes.
-pub fn form_of(command: Command) -> Options
+fn form_of(command: Command) -> Options
     ensures { λ r. ⌜ r ≡ formOf command ⌝ }
 {
     match command {
@@ -130,7 +132,7 @@ fn with_budget(options: Options, budget: u64) -> Options
 }
 
 // With one word more.
-pub fn with_word(options: Options, asked: Asked) -> Options
+fn with_word(options: Options, asked: Asked) -> Options
     ensures { λ r. ⌜ r ≡ withWord options asked ⌝ }
 {
     match asked {
@@ -143,7 +145,7 @@ pub fn with_word(options: Options, asked: Asked) -> Options
 }
 
 // A call that is not to be obeyed.
-pub fn spoilt(options: Options) -> Options
+fn spoilt(options: Options) -> Options
     ensures { λ r. ⌜ r ≡ spoiltOf options ⌝ }
 {
     let traced = options.traced;
@@ -159,12 +161,72 @@ pub fn spoilt(options: Options) -> Options
 }
 
 // Whether a word came.
-pub fn is_given(turn: Turn) -> bool
+fn is_given(turn: Turn) -> bool
     ensures { λ r. ⌜ r ≡ isGiven turn ⌝ }
 {
     match turn {
         Turn::Never => false,
         Turn::Open => false,
         Turn::Given => true,
+    }
+}
+
+// Whether a name is missing, in a call of so many words.
+pub fn is_missing(command: Command, count: usize) -> bool
+    ensures { λ r. ⌜ r ≡ isMissing command count ⌝ }
+{
+    count < behind_names(command, count)
+}
+
+// What a call of so many words asks for, before the first word behind the names.
+pub fn start_of(command: Command, count: usize) -> Options
+    ensures { λ r. ⌜ r ≡ startOf command count ⌝ }
+{
+    let form = form_of(command);
+    if is_missing(command, count) {
+        spoilt(form)
+    } else {
+        form
+    }
+}
+
+// Whether nothing is wrong with a word.
+pub fn is_fine(trouble: Trouble) -> bool
+    ensures { λ r. ⌜ r ≡ isFine trouble ⌝ }
+{
+    match trouble {
+        Trouble::Fine => true,
+        Trouble::Stray => false,
+        Trouble::Twice => false,
+        Trouble::NotNumber => false,
+    }
+}
+
+// What a call asks for with one word more. A word that is wrong spoils the call.
+pub fn with_next(options: Options, asked: Asked) -> Options
+    ensures { λ r. ⌜ r ≡ withNext options asked ⌝ }
+{
+    if is_fine(trouble_of(options, asked)) {
+        with_word(options, asked)
+    } else {
+        spoilt(options)
+    }
+}
+
+// Whether the load is to be a traced one.
+pub fn is_traced(options: Options) -> bool
+    ensures { λ r. ⌜ r ≡ isTraced options ⌝ }
+{
+    let traced = options.traced;
+    is_given(traced)
+}
+
+// The console's switches.
+pub fn switches_of(options: Options) -> Switches
+    ensures { λ r. ⌜ r ≡ switchesOf options ⌝ }
+{
+    let stop = options.stop;
+    Switches {
+        stop: is_given(stop),
     }
 }

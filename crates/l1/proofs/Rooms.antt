@@ -1,70 +1,21 @@
 -- Laws of a run in a room that is emptied when it is full: each room takes some of the budget, so they come to an end. Assumes nothing.
 use Prim.Native.Nat.{ℕ, zero, suc, _+_, _-_, _≤_, _<_}
-use mathlib.Core.Path.{_≡_, refl, sym, ap, ap₂, _∙_}
+use mathlib.Core.Path.{_≡_, refl, sym, ap, ap₂, subst, _∙_}
 use mathlib.Core.List.{List}
 use mathlib.Core.Bool.{Bool, true, false, true≢false}
 use native.Mathlib.Omega.{arith}
 use lib.ListN.{length, length-append, length-drop}
-use Rattle.rules.specs.Words.{pick}
-use Rattle.rules.specs.Numbers.{completed, mayGoOn}
-use Rattle.rules.specs.Drum.{view, drumFits}
-use Rattle.rules.specs.Decks.{deckOf}
-use Rattle.rules.specs.Machine.{Machine, Inputs}
-use Rattle.rules.specs.Running.{RunCall, RunResult, step, runFrom, over, notRun, begun, inputs, stateFits, ranAs, ranOn, ran}
-use Rattle.rules.specs.declared.State.{State}
-use Rattle.rules.specs.declared.Switches.{Switches}
-use Rattle.rules.specs.declared.Outcome.{Outcome}
-use Rattle.rules.specs.declared.Outcome.the-variants.{GoesOn, Stops, Undone}
-use Rattle.rules.specs.declared.Deck.{Deck}
-use Rattle.rules.specs.declared.Deck.the-variants.{Good, Faulty}
-use Rattle.rules.specs.declared.Bar.the-variants.{BadDrum, BadDeck, BadState}
+use Rattle.rules.specs.Numbers.{outcomeNumber, outcomeShown}
+use Rattle.rules.specs.Running.{RunCall, RunResult, runFrom, over, begun, inputs, ranAs, ran}
 use Rattle.rules.specs.declared.Ending.{Ending}
+use Rattle.rules.proofs.Tests.{false-true}
 use Rattle.machine.specs.Lent.{RunRight, callOf}
 use Rattle.machine.specs.declared.Ran.{Ran}
+use Rattle.says.specs.Told.{mayClose}
+use Rattle.says.proofs.Runs.{of-run, ran-count, count-within}
+use Rattle.says.proofs.Fields.{outcome-small, budget-small, run-ended, stop-closes}
 use Rattle.l1.specs.Going.{Whole, mayRefill, endedAs, refilled, goneOn, WentOn}
-
--- ---- a run's count is within its budget
-
-one-at-most : (o : Outcome) → completed o ≤ 1
-one-at-most (Stops k w) = omega arith
-one-at-most GoesOn = omega arith
-one-at-most (Undone r) = omega arith
-
-count-within : (i : Inputs) (k : ℕ) (m : Machine) (n : ℕ) → runFrom i k m n .count ≤ n + k
-unfolding runFrom
-count-within i zero m n = omega arith
-count-within i (suc k) m n = go (mayGoOn (step i m .outcome)) refl (count-within i k (step i m .machine) (n + 1))
-  where
-    go : (t : Bool) → mayGoOn (step i m .outcome) ≡ t → runFrom i k (step i m .machine) (n + 1) .count ≤ (n + 1) + k
-        → runFrom i (suc k) m n .count ≤ n + suc k
-    go true e h = rw (e, runFrom) (omega arith)
-    go false e h = rw (e, runFrom) (omega (arith, one-at-most (step i m .outcome)))
-
--- what is said of a run's result, where no run is made and where one is made
-module _ (P : RunResult → Type 0) (c : RunCall) (not : (r : RunResult) → r .count ≡ 0 → r .written ≡ 0 → P r)
-    (did : P (ranAs c (runFrom (inputs c) (c .budget) (begun c) 0))) where
-  by-state : (t : Bool) → P (pick t (ranAs c (runFrom (inputs c) (c .budget) (begun c) 0)) (notRun c BadState))
-  by-state true = did
-  by-state false = not _ refl refl
-
-  by-deck : (d : Deck) → P (ranOn c d)
-  unfolding ranOn
-  by-deck (Faulty f) = not _ refl refl
-  by-deck (Good behind order problem) = by-state (stateFits (view (c .drum) (c .marks)) (c .deck) behind (c .state) (c .budget))
-
-  by-drum : (t : Bool) → P (pick t (ranOn c (deckOf (c .deck))) (notRun c BadDrum))
-  by-drum true = by-deck (deckOf (c .deck))
-  by-drum false = not _ refl refl
-
-  of-run : P (ran c)
-  unfolding ran
-  of-run = by-drum (drumFits (length (c .drum)) (c .marks) (view (c .drum) (c .marks)))
-
-ran-count : (c : RunCall) → ran c .count ≤ c .budget
-unfolding ranAs
-ran-count c =
-    of-run (λ (r : RunResult). r .count ≤ c .budget) c (λ r e f. omega (arith, e))
-    (let h : runFrom (inputs c) (c .budget) (begun c) 0 .count ≤ c .budget = omega (arith, count-within (inputs c) (c .budget) (begun c) 0) in h)
+use Rattle.l1.specs.declared.sessions.Gone.{Gone}
 
 -- ---- what was written is within the room, since the room is as long as before
 
@@ -75,12 +26,16 @@ over-within sent out e = omega (arith, simp (length-append, length-drop) at e)
 ran-written : (c : RunCall) → length (ran c .out) ≡ length (c .out) → ran c .written ≤ length (c .out)
 unfolding ranAs
 ran-written c =
-    of-run (λ (r : RunResult). length (r .out) ≡ length (c .out) → r .written ≤ length (c .out)) c (λ r e f h. omega (arith, f))
-    (over-within _ (c .out))
+    of-run (λ (r : RunResult). length (r .out) ≡ length (c .out) → r .written ≤ length (c .out)) c (λ b h. omega arith)
+    (λ f. over-within _ (c .out))
 
 -- ---- room after room
 
 module _ (c : RunCall) (n : ℕ) where
+  gone-none : goneOn 0 c n ≡ endedAs (ran c) n
+  unfolding goneOn
+  gone-none = refl
+
   gone-end : (k : ℕ) → mayRefill (ran c .ending) (ran c .count) ≡ false → goneOn k c n ≡ endedAs (ran c) n
   unfolding goneOn
   gone-end zero e = refl
@@ -123,3 +78,47 @@ module _ (c : RunCall) {drum marks out : List ℕ} {r : Ran} (right : RunRight (
 pub refill-took : (e : Ending) (count : ℕ) → mayRefill e count ≡ true → 0 < count
 refill-took e zero h = absurd (true≢false (sym h))
 refill-took e (suc k) h = omega arith
+
+-- ---- the closing of the whole can be written
+
+small : (n b : ℕ) → b ≤ 999999 → (0 < n → n + b ≤ 999999) → n + b ≤ 999999
+small zero b l h = omega arith
+small (suc n) b l h = h (omega arith)
+
+ended-closes : (c : RunCall) (n : ℕ) → (0 < n → n + c .budget ≤ 999999)
+    → mayClose (ran c .ending) (ran c .state) (n + ran c .count) ≡ true
+unfolding ranAs
+ended-closes c n h =
+    of-run (λ (r : RunResult). mayClose (r .ending) (r .state) (n + r .count) ≡ true) c (λ b. refl)
+    (λ f.
+    let e = run-ended c f in
+    let x = runFrom (inputs c) (c .budget) (begun c) 0 in
+    stop-closes (outcomeNumber (x .outcome)) (x .machine .state .location) (n + x .count) (outcomeShown (x .outcome))
+    (outcome-small (x .outcome)) (e .sound .located)
+    (omega (arith, small n (c .budget) (budget-small c f) h, count-within (inputs c) (c .budget) (begun c) 0))
+    (e .shown))
+
+refill-budget : (c : RunCall) → mayRefill (ran c .ending) (ran c .count) ≡ true → c .budget ≤ 999999
+unfolding ranAs
+refill-budget c =
+    of-run (λ (r : RunResult). mayRefill (r .ending) (r .count) ≡ true → c .budget ≤ 999999) c (λ b e. false-true e) (λ f e. budget-small c f)
+
+abbrev Closes : Whole → Type 0
+Closes w = mayClose (w .ending) (w .state) (w .count) ≡ true
+
+gone-closes : (k : ℕ) (c : RunCall) (n : ℕ) → (0 < n → n + c .budget ≤ 999999) → Closes (goneOn k c n)
+gone-closes zero c n h = subst Closes (sym (gone-none c n)) (ended-closes c n h)
+gone-closes (suc k) c n h =
+    go (mayRefill (ran c .ending) (ran c .count)) refl (λ g. gone-closes k (refilled c (ran c)) (n + ran c .count) g)
+  where
+    go : (t : Bool) → mayRefill (ran c .ending) (ran c .count) ≡ t
+        → ((0 < n + ran c .count → n + ran c .count + (c .budget - ran c .count) ≤ 999999) → Closes (goneOn k (refilled c (ran c)) (n + ran c .count)))
+        → Closes (goneOn (suc k) c n)
+    go true e g =
+        subst Closes (sym (gone-more c n k e)) (g (λ l. omega (arith, ran-count c, small n (c .budget) (refill-budget c e) h)))
+    go false e g = subst Closes (sym (gone-end c n (suc k) e)) (ended-closes c n h)
+
+pub went-closes : (k : ℕ) (c : RunCall) (drum marks : List ℕ) (r : Gone) → WentOn (goneOn k c 0) drum marks r
+    → mayClose (r .ending) (r .state) (r .count) ≡ true
+went-closes k c drum marks r w =
+    rw (w .ending-is, w .state-is, w .count-is) (gone-closes k c 0 (λ l. let z : ⊥ = omega arith in absurd z))

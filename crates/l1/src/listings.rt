@@ -1,13 +1,16 @@
 // Listings on standard output: cards as lines that people read, and the marked cells of a machine file.
 ghost use mathlib.Core.Path.{_≡_};
-ghost use Prim.Native.Nat.{_≤_};
-ghost use lib.ListN.{length};
-use crate::files::fill;
+ghost use Prim.Native.Nat.{_-_, _≤_};
+ghost use lib.ListN.{length, drop};
+ghost use lib.Seq.{paste};
 use crate::machines::hold;
+use crate::machines::is_held;
 use crate::sessions::empty_drum;
 use crate::sessions::no_marks;
+use crate::telling::send_cells;
 use crate::telling::send_first;
 use crate::telling::tell_bar;
+use disk::fill;
 use rules::Bar;
 
 // Whether all lines of a part of a file were sent, and how many bytes its cards take.
@@ -63,7 +66,7 @@ fn list_cards(lines: &mut [u8], part: &[u8], is_last: bool) -> Listed
 // The bytes of the room from a place up to another go to its start.
 fn move_down(room: &mut [u8], from: usize, to: usize)
     requires { ⌜ (from ≤ to) × (to ≤ length (now room)) ⌝ }
-    ensures { λ _. ⌜ length (now (room .exit)) ≡ length (now (room .entry)) ⌝ }
+    ensures { λ _. ⌜ now (room .exit) ≡ paste (now (room .entry)) 0 (drop from (now (room .entry))) (to - from) ⌝ }
 {
     let n = to - from;
     let mut i: usize = 0;
@@ -165,26 +168,11 @@ pub fn list(path: &[u8]) {
     libc::close(fd);
 }
 
-// The line of one marked cell.
-fn list_cell(address: usize, word: u64) -> bool {
-    let mut line = [0u8; 64];
-    let n = list::write_cell(&mut line, address, word);
-    send_first(&line, n)
-}
-
-// The marked cells, one to a line, up to the first line that cannot be sent.
-fn list_cells(drum: &[u64], marks: &[u8])
-    requires { ⌜ length (now drum) ≡ length (now marks) ⌝ }
-{
-    let mut a: usize = 0;
-    while a < drum.len() {
-        if marks[a] == 1 {
-            if !list_cell(a, drum[a]) {
-                return;
-            }
-        }
-        a += 1;
-    }
+// The lines of the marked cells.
+fn list_cells(drum: &[u64], marks: &[u8]) -> bool {
+    let mut lines = io::large_buffer();
+    let n = list::write_cells(&mut lines, drum, marks);
+    send_cells(&lines[..n], drum, marks)
 }
 
 // The marked cells of the machine file at path.
@@ -192,16 +180,12 @@ pub fn cells(path: &[u8]) {
     let mut drum = empty_drum();
     let mut marks = no_marks();
     let held = hold(&mut drum, &mut marks, path);
-    if !held.read {
+    if !is_held(held) {
         return;
     }
-    if !held.good {
+    if drum::is_fit(&drum, &marks) {
+        list_cells(&drum, &marks);
+    } else {
         tell_bar(Bar::BadDrum);
-        return;
     }
-    if !drum::is_fit(&drum, &marks) {
-        tell_bar(Bar::BadDrum);
-        return;
-    }
-    list_cells(&drum, &marks);
 }

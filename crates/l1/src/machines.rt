@@ -1,20 +1,31 @@
-// Machine files: made new, read onto a drum, and replaced. Load and run on them, and their marked cells.
+// Machine files: made new, read onto a drum, and replaced. Load and run on them.
 ghost use mathlib.Core.Path.{_≡_};
+ghost use mathlib.Core.Bool.{true};
+ghost use mathlib.Core.List.{List};
+ghost use Prim.Native.Nat.{ℕ};
 ghost use lib.ListN.{length};
-use crate::files::read_whole;
+ghost use Rattle.io.specs.Counts.{Counts};
+ghost use Rattle.rules.specs.Words.{both};
+ghost use Rattle.file.specs.Files.{fileOf};
+ghost use Rattle.file.specs.Reads.{FileRead};
+ghost use Rattle.says.specs.Told.{mayClose};
+ghost use Rattle.l1.specs.New.{newFile};
+use crate::sessions::Gone;
+use crate::sessions::deck_room;
 use crate::sessions::empty_drum;
-use crate::sessions::go_on;
+use crate::sessions::load_as;
 use crate::sessions::no_marks;
+use crate::sessions::run_as;
 use crate::telling::tell;
 use crate::telling::tell_bar;
 use crate::words::name_at;
 use calls::Options;
-use calls::is_given;
+use disk::Filled;
+use disk::read_whole;
 use rules::Bar;
 use rules::Ending;
 use rules::Loading;
 use rules::State;
-use rules::Switches;
 
 // Whether a machine file could be read, whether it is one, and the state in it.
 pub struct Held {
@@ -44,8 +55,10 @@ fn text_room() -> [u8; 262145]
     [0; 262145]
 }
 
-// The machine file at path, onto a drum and marks.
-pub fn hold(drum: &mut [u64], marks: &mut [u8], path: &[u8]) -> Held {
+// The machine file at path, onto a drum and marks: what stands in some bytes, whatever the system read.
+pub fn hold(drum: &mut [u64], marks: &mut [u8], path: &[u8]) -> Held
+    ensures { λ r. ⌜ ((bytes : List ℕ) × FileRead (now (drum .entry)) (now (marks .entry)) bytes (record { good = r .good; state = r .state }) (now (drum .exit)) (now (marks .exit))) ⌝ }
+{
     let mut room = file_room();
     let x = read_whole(&mut room, path);
     let n = x.count;
@@ -58,31 +71,49 @@ pub fn hold(drum: &mut [u64], marks: &mut [u8], path: &[u8]) -> Held {
     }
 }
 
+// Whether a machine file may be used. Where it could be read and is none, that is told.
+pub fn is_held(held: Held) -> bool
+    ensures { λ r. ⌜ r ≡ both (held .read) (held .good) ⌝ }
+{
+    if !held.read {
+        return false;
+    }
+    if !held.good {
+        tell_bar(Bar::BadDrum);
+        return false;
+    }
+    true
+}
+
+// The file at path is replaced by bytes that are the machine file of these cells, marks and state.
+fn replace_file(path: &[u8], bytes: &[u8], drum: &[u64], marks: &[u8], state: State) -> bool
+    requires { ⌜ now bytes ≡ fileOf (now drum) (now marks) state ⌝ }
+{
+    disk::replace(path, bytes)
+}
+
 // The machine file at path becomes one of these cells, marks and state, or stays as it was, and that is said.
 fn keep(path: &[u8], drum: &[u64], marks: &[u8], state: State) -> bool {
     let mut bytes = file_bytes();
-    file::write_file(&mut bytes, drum, marks, state);
-    if crate::files::replace(path, &bytes) {
-        return true;
+    if file::write_file(&mut bytes, drum, marks, state) {
+        if replace_file(path, &bytes, drum, marks, state) {
+            return true;
+        }
     }
     says::kept(path);
     false
 }
 
 // A load on the machine file at path.
-fn load_on(path: &[u8], deck: &[u8], traced: bool) {
+fn load_on(path: &[u8], deck: &[u8], options: Options) {
     let mut drum = empty_drum();
     let mut marks = no_marks();
     let held = hold(&mut drum, &mut marks, path);
-    if !held.read {
-        return;
-    }
-    if !held.good {
-        tell_bar(Bar::BadDrum);
+    if !is_held(held) {
         return;
     }
     let before = held.state;
-    let x = machine::load(&mut drum, &mut marks, deck, before, traced);
+    let x = load_as(&mut drum, &mut marks, deck, before, options);
     let loading = x.loading;
     let after = x.state;
     match loading {
@@ -95,44 +126,34 @@ fn load_on(path: &[u8], deck: &[u8], traced: bool) {
 
 // A run on the machine file at path. The cards are sent as the run goes on; the file is replaced before the Z card is sent, so that a Z
 // card says what the file holds.
-fn run_on(path: &[u8], deck: &[u8], budget: u64, switches: Switches) {
+fn run_on(path: &[u8], deck: &[u8], options: Options) {
     let mut drum = empty_drum();
     let mut marks = no_marks();
     let held = hold(&mut drum, &mut marks, path);
-    if !held.read {
-        return;
-    }
-    if !held.good {
-        tell_bar(Bar::BadDrum);
+    if !is_held(held) {
         return;
     }
     let before = held.state;
     let mut out = io::large_buffer();
-    let g = go_on(
-        &mut drum,
-        &mut marks,
-        &mut out,
-        deck,
-        before,
-        budget,
-        switches,
-    );
+    let g = run_as(&mut drum, &mut marks, &mut out, deck, before, options);
     if !g.sent {
         says::kept(path);
         return;
     }
-    let ending = g.ending;
-    let after = g.state;
-    finish(path, &drum, &marks, ending, after, g.count);
+    finish(path, &drum, &marks, g);
 }
 
 // After a run on a machine file: it is replaced, and the Z card is sent; or the run was refused at its entry, and its line is sent.
-fn finish(path: &[u8], drum: &[u64], marks: &[u8], ending: Ending, state: State, count: u64) {
+fn finish(path: &[u8], drum: &[u64], marks: &[u8], g: Gone)
+    requires { ⌜ mayClose (g .ending) (g .state) (g .count) ≡ true ⌝ }
+{
+    let ending = g.ending;
+    let state = g.state;
     match ending {
         Ending::NotRun(b) => tell_bar(b),
         Ending::Ran(_) => {
             if keep(path, drum, marks, state) {
-                if !tell(ending, state, count) {
+                if !tell(ending, state, g.count) {
                     says::replaced(path);
                 }
             }
@@ -140,59 +161,62 @@ fn finish(path: &[u8], drum: &[u64], marks: &[u8], ending: Ending, state: State,
     }
 }
 
-// Load on the machine file at path, with the deck that the next word names.
-pub fn load(path: &[u8], options: Options) {
-    if crate::files::is_link(path) {
+// The deck that the word behind the machine file's name names. A machine file that is a link is not taken.
+fn deck_for(path: &[u8], room: &mut [u8]) -> Filled
+    ensures { λ r. ⌜ Counts (r .count) (now (room .exit)) ⌝ }
+{
+    let none = Filled {
+        good: false,
+        count: 0,
+    };
+    if disk::is_link(path) {
         says::link(path);
-        return;
+        return none;
     }
     let mut name = io::buffer();
     let named = name_at(&mut name, 3);
     if !named.good {
-        return;
+        return none;
     }
     let n = named.count;
-    let mut room = crate::files::deck_room();
-    let deck = read_whole(&mut room, &name[..n]);
-    if !deck.good {
-        return;
+    read_whole(room, &name[..n])
+}
+
+// Load on the machine file at path, with the deck that the next word names.
+pub fn load(path: &[u8], options: Options) {
+    let mut room = deck_room();
+    let deck = deck_for(path, &mut room);
+    if deck.good {
+        let n = deck.count;
+        load_on(path, &room[..n], options);
     }
-    let k = deck.count;
-    let traced = options.traced;
-    load_on(path, &room[..k], is_given(traced));
 }
 
 // Run on the machine file at path, with the deck that the next word names.
 pub fn run(path: &[u8], options: Options) {
-    if crate::files::is_link(path) {
-        says::link(path);
-        return;
+    let mut room = deck_room();
+    let deck = deck_for(path, &mut room);
+    if deck.good {
+        let n = deck.count;
+        run_on(path, &room[..n], options);
     }
-    let mut name = io::buffer();
-    let named = name_at(&mut name, 3);
-    if !named.good {
-        return;
-    }
-    let n = named.count;
-    let mut room = crate::files::deck_room();
-    let deck = read_whole(&mut room, &name[..n]);
-    if !deck.good {
-        return;
-    }
-    let k = deck.count;
-    let stop = options.stop;
-    let switches = Switches {
-        stop: is_given(stop),
-    };
-    run_on(path, &room[..k], options.budget, switches);
 }
 
-// A new machine file of these cells, with no marks and a state of nine zeros.
-fn make(path: &[u8], drum: &[u64]) {
+// A file is made of bytes that are the new machine file of these cells.
+fn make_file(path: &[u8], bytes: &[u8], drum: &[u64]) -> bool
+    requires { ⌜ now bytes ≡ newFile (now drum) ⌝ }
+{
+    disk::make(path, bytes)
+}
+
+// A new machine file of these cells, with no marks and a state of nine zeros. Where it is not made, that is said.
+fn make(path: &[u8], drum: &[u64]) -> bool {
     let marks = no_marks();
     let mut bytes = file_bytes();
-    file::write_file(&mut bytes, drum, &marks, states::none());
-    crate::files::make(path, &bytes);
+    if file::write_file(&mut bytes, drum, &marks, states::none()) {
+        return make_file(path, &bytes, drum);
+    }
+    false
 }
 
 // The text of cells at path, onto a drum.

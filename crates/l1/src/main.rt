@@ -1,6 +1,5 @@
 // The program: one command for each call. Here the words of the call choose what is done; it is done by the other modules, over the
 // libraries.
-mod files;
 mod listings;
 mod machines;
 mod sessions;

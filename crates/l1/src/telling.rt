@@ -1,6 +1,12 @@
-// What is told on standard output: cards, the Z card, the line of a refused call, and that a deck is good.
+// What is told on standard output: cards, the Z card, the line of a refused call, the lines of cells, and that a deck is good.
+ghost use mathlib.Core.Path.{_≡_};
+ghost use mathlib.Core.Bool.{true};
 ghost use Prim.Native.Nat.{_≤_};
 ghost use lib.ListN.{length};
+ghost use Rattle.rules.specs.Drum.{view};
+ghost use Rattle.rules.specs.Sheet.{closing};
+ghost use Rattle.list.specs.Marked.{markedLines};
+ghost use Rattle.says.specs.Told.{mayClose};
 use libc::STDOUT_FILENO;
 use rules::Bar;
 use rules::Deck;
@@ -8,7 +14,7 @@ use rules::Ending;
 use rules::State;
 
 // Bytes as they are. Where they cannot be written, that is said.
-pub fn send(bytes: &[u8]) -> bool {
+fn send(bytes: &[u8]) -> bool {
     if io::write_all(STDOUT_FILENO, bytes) {
         return true;
     }
@@ -23,11 +29,27 @@ pub fn send_first(room: &[u8], n: usize) -> bool
     send(&room[0..n])
 }
 
+// Bytes that are the closing of such a call.
+fn send_closing(bytes: &[u8], ending: Ending, state: State, count: u64) -> bool
+    requires { ⌜ now bytes ≡ closing ending state count ⌝ }
+{
+    send(bytes)
+}
+
+// Bytes that are the lines of the marked cells, and of no other.
+pub fn send_cells(bytes: &[u8], drum: &[u64], marks: &[u8]) -> bool
+    requires { ⌜ now bytes ≡ markedLines (view (now drum) (now marks)) ⌝ }
+{
+    send(bytes)
+}
+
 // The Z card of a run, or the line of one that was refused at its entry. It answers whether it was written.
-pub fn tell(ending: Ending, state: State, count: u64) -> bool {
+pub fn tell(ending: Ending, state: State, count: u64) -> bool
+    requires { ⌜ mayClose ending state count ≡ true ⌝ }
+{
     let mut text = [0u8; 64];
     let n = says::write_closing(&mut text, ending, state, count);
-    send(&text[..n])
+    send_closing(&text[..n], ending, state, count)
 }
 
 // The line of a call that was refused at its entry.
@@ -51,8 +73,8 @@ fn tell_deck(found: Deck) {
 
 // The check of a deck alone.
 pub fn check_deck(path: &[u8]) {
-    let mut room = crate::files::deck_room();
-    let deck = crate::files::read_whole(&mut room, path);
+    let mut room = crate::sessions::deck_room();
+    let deck = disk::read_whole(&mut room, path);
     if !deck.good {
         return;
     }

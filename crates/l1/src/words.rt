@@ -1,16 +1,19 @@
 // The words of a call as the system has them: they are read, and what they ask for is gathered.
 ghost use mathlib.Core.Path.{_≡_};
+ghost use mathlib.Core.List.{List};
+ghost use Prim.Native.Nat.{ℕ};
 ghost use lib.ListN.{length};
 ghost use Rattle.io.specs.Counts.{Counts};
+ghost use Rattle.calls.specs.Words.{askedBy, withNext, startOf, behindNames, Read};
 use calls::Command;
 use calls::Options;
-use calls::Trouble;
 use calls::asked_by;
 use calls::behind_names;
-use calls::form_of;
-use calls::spoilt;
+use calls::is_fine;
+use calls::is_missing;
+use calls::start_of;
 use calls::trouble_of;
-use calls::with_word;
+use calls::with_next;
 
 // Whether a word could be read as the name of a file, and its length.
 pub struct Named {
@@ -25,43 +28,53 @@ fn word_room() -> [u8; 131072]
     [0; 131072]
 }
 
-// What a call asks for with the word i more. A word that is wrong is said, and spoils the call.
-fn take_word(options: Options, i: usize) -> Options {
-    let mut word = word_room();
-    let n = os::arg(i, &mut word);
-    let asked = asked_by(&word[..n]);
+// What a call asks for with one word more. A word that is wrong is said.
+fn take(options: Options, word: &[u8]) -> Options
+    ensures { λ r. ⌜ r ≡ withNext options (askedBy (now (word .entry))) ⌝ }
+{
+    let asked = asked_by(word);
     let trouble = trouble_of(options, asked);
-    match trouble {
-        Trouble::Fine => with_word(options, asked),
-        Trouble::Stray | Trouble::Twice | Trouble::NotNumber => {
-            says::refused(&word[..n], trouble);
-            spoilt(options)
-        }
+    if !is_fine(trouble) {
+        says::refused(word, trouble);
     }
+    with_next(options, asked)
 }
 
-// What the words from i on ask for.
-fn take_words(form: Options, from: usize) -> Options {
-    let count = os::arg_count();
+// With the word i of the call more, whatever its bytes are.
+fn take_word(options: Options, room: &mut [u8], i: usize) -> Options
+    ensures { λ r. ⌜ ((word : List ℕ) × (r ≡ withNext options (askedBy word))) ⌝ }
+{
+    let n = os::arg(i, room);
+    take(options, &room[..n])
+}
+
+// What the words from a place on ask for, in a call of so many.
+fn take_words(form: Options, from: usize, count: usize) -> Options
+    ensures { λ r. ⌜ Read form from count r ⌝ }
+{
+    let mut room = word_room();
     let mut options = form;
     let mut i = from;
     while i < count && options.good {
-        options = take_word(options, i);
+        options = take_word(options, &mut room, i);
         i += 1;
     }
     options
 }
 
 // What a call of a command asks for. Where its words are wrong, that is said, and it is not to be obeyed.
-pub fn options_of(command: Command) -> Options {
-    let form = form_of(command);
+pub fn options_of(command: Command) -> Options
+    ensures { λ r. ⌜ ((count : ℕ) × Read (startOf command count) (behindNames command count) count r) ⌝ }
+{
     let count = os::arg_count();
-    let from = behind_names(command, count);
-    if count < from {
+    if is_missing(command, count) {
         says::missing();
-        return spoilt(form);
     }
-    take_words(form, from)
+    take_words(
+        start_of(command, count),
+        behind_names(command, count),
+        count,
+    )
 }
 
 // The word i as the name of a file.

@@ -11,6 +11,8 @@ use Rattle.list.proofs.cells.write_cell.Kinds as write-cell-kinds
 use Rattle.list.proofs.cells.write_cell.Reads as write-cell
 use Rattle.list.proofs.listing.write_lines.Kinds as write-lines-kinds
 use Rattle.list.proofs.listing.write_lines.Reads as write-lines
+use Rattle.list.proofs.marked.write_cells.Kinds as write-cells-kinds
+use Rattle.list.proofs.marked.write_cells.Reads as write-cells
 use Rattle.list.proofs.places.write_bad.Kinds as write-bad-kinds
 use Rattle.list.proofs.places.write_bad.Reads as write-bad
 
@@ -25,6 +27,9 @@ Agrees k ps r Post Same = (κs : Lfts k) (a : Dens κs ps) (x y : resT r κs .De
 
 pub one-cell : Agrees 1 write-cell-kinds.ps write-cell-kinds.r write-cell.Post (λ κs x y s t. (x ≡ y) × (now (s .0) ≡ now (t .0)))
 one-cell κs a x y s t p q = (p .answer ∙ sym (q .answer), p .bytes ∙ sym (q .bytes))
+
+pub one-cells : Agrees 3 write-cells-kinds.ps write-cells-kinds.r write-cells.Post (λ κs x y s t. (x ≡ y) × (now (s .0) ≡ now (t .0)))
+one-cells κs a x y s t p q = (p .answer ∙ sym (q .answer), p .bytes ∙ sym (q .bytes))
 
 pub one-place : Agrees 1 write-bad-kinds.ps write-bad-kinds.r write-bad.Post (λ κs x y s t. (x ≡ y) × (now (s .0) ≡ now (t .0)))
 one-place κs a x y s t p q = (p .answer ∙ sym (q .answer), p .bytes ∙ sym (q .bytes))

@@ -1,3 +1,4 @@
 pub mod Listing
 pub mod Examples
 pub mod Listed
+pub mod Marked

@@ -1,61 +1,37 @@
--- `l1::listings::list_cells` ends: each turn goes to the next cell. Assumes nothing.
-use mathlib.Core.Path.{_≡_}
-use Prim.Native.Nat.{_≤_, _-_}
-use native.Mathlib.Omega.{arith}
-use lib.ListN.{length}
+-- `l1::listings::list_cells` sends the lines of the marked cells, all of them and nothing else. Assumes nothing.
+use Rattle.rules.specs.Drum.{view}
+use Rattle.says.proofs.Answers.{line-within}
+use Rattle.says.proofs.Counted.{counts}
 use borrow.Author.Needs.{needs}
+use Rattle.l1.proofs.Sendings.{cells-sent}
 use Rattle.l1.proofs.listings.list_cells.Statement.{statement}
 use Rattle.l1.proofs.listings.list_cells.Tie as tie
 
-abbrev Inv-loop : tie.InvT-loop
-Inv-loop drum marks a₀ a = Unit {0}
+array-share-prefix-lines : tie.Need-array-share-prefix-lines
+array-share-prefix-lines c =
+    let wrote : tie.After-write-cells = search in
+    line-within _ _ _ _ (wrote .write-cells .ensures)
 
-abbrev μ-loop : tie.MeasureT-loop
-μ-loop drum marks a₀ a = length drum - a
+slice-aggregate-send-cells : tie.Need-slice-aggregate-send-cells
+slice-aggregate-send-cells c =
+    let wrote : tie.After-write-cells = search in
+    counts _ _ (line-within _ _ _ _ (wrote .write-cells .ensures)) .1
 
-loop-holds : tie.Need-loop-holds Inv-loop μ-loop
-loop-holds c = tt
-
-shared-slice-read-if1 : tie.Need-shared-slice-read-if1 Inv-loop μ-loop
-shared-slice-read-if1 c = search needs
-
-mul-list-cell : tie.Need-mul-list-cell Inv-loop μ-loop
-mul-list-cell c = search needs
-
-shared-slice-read-list-cell : tie.Need-shared-slice-read-list-cell Inv-loop μ-loop
-shared-slice-read-list-cell c = search needs
-
-list-cell-requires : tie.Need-list-cell-requires Inv-loop μ-loop
-list-cell-requires c κs = search needs
-
-returns : tie.Need-returns Inv-loop μ-loop
-returns c = search needs
-
-add-a : tie.Need-add-a Inv-loop μ-loop
-add-a c = search needs
-
-loop-less : tie.Need-loop-less Inv-loop μ-loop
-loop-less c = search needs
-
-loop-again : tie.Need-loop-again Inv-loop μ-loop
-loop-again c = tt
-
-returns-2 : tie.Need-returns-2 Inv-loop μ-loop
-returns-2 c = search needs
+send-cells-requires : tie.Need-send-cells-requires
+send-cells-requires c κs =
+    let wrote : tie.After-write-cells = search in
+    let room : tie.After-large-buffer = search in
+    let start : tie.Start = search in
+    cells-sent (view (start .args .drum .now) (start .args .marks .now)) (wrote .write-cells .ensures) (room .large-buffer .ensures)
 
 pub list-cells-spec : {M : Type 1} → statement M
 list-cells-spec =
     tie.close
     (tie.spec
-    Inv-loop
-    μ-loop
-    loop-holds
-    shared-slice-read-if1
-    mul-list-cell
-    shared-slice-read-list-cell
-    list-cell-requires
-    returns
-    add-a
-    loop-less
-    loop-again
-    returns-2)
+    (λ c κs. search needs)
+    (λ c. search needs)
+    (λ c κs. search needs)
+    array-share-prefix-lines
+    slice-aggregate-send-cells
+    send-cells-requires
+    (λ c. search needs))

@@ -1,21 +1,14 @@
-// Files by name: read whole, made new, and replaced whole or not at all.
+// Files by name: read whole, made new, and replaced whole or not at all. What a call of the system reads or writes no contract can say.
+mod names;
+
 ghost use Rattle.io.specs.Counts.{Counts};
-ghost use Rattle.libc.specs.Io.{Ended};
 ghost use mathlib.Core.Path.{_≡_};
-ghost use lib.ListN.{length};
-ghost use Prim.Native.Nat.{_≤_};
+ghost use mathlib.Core.Bool.{false};
 
 // Whether a file was read, and how many bytes of the room it took.
 pub struct Filled {
     pub good: bool,
     pub count: usize,
-}
-
-// Room for a deck and one byte more, by which a longer one is noticed.
-pub fn deck_room() -> [u8; 65537]
-    ensures { λ r. ⌜ 65537 ≡ length r ⌝ }
-{
-    [0; 65537]
 }
 
 // One read into what is left of the room; nothing at the file's end.
@@ -33,6 +26,7 @@ fn read_some(fd: i32, rest: &mut [u8]) -> Filled
 // Reads until the room is full or the file ends.
 pub fn fill(fd: i32, room: &mut [u8]) -> Filled
     ensures { λ r. ⌜ Counts (r .count) (now (room .exit)) ⌝ }
+    ensures { λ r. ⌜ (r .good ≡ false → r .count ≡ 0) ⌝ }
 {
     let mut at: usize = 0;
     while at < room.len() {
@@ -58,6 +52,7 @@ pub fn fill(fd: i32, room: &mut [u8]) -> Filled
 // The file at path, as far as the room goes. Where it cannot be read, that is said.
 pub fn read_whole(room: &mut [u8], path: &[u8]) -> Filled
     ensures { λ r. ⌜ Counts (r .count) (now (room .exit)) ⌝ }
+    ensures { λ r. ⌜ (r .good ≡ false → r .count ≡ 0) ⌝ }
 {
     let fd = os::open_read(path);
     if fd < 0 {
@@ -104,32 +99,6 @@ pub fn make(path: &[u8], bytes: &[u8]) -> bool {
     true
 }
 
-// The smaller of two numbers.
-fn least(a: usize, b: usize) -> usize
-    ensures { λ r. ⌜ (r ≤ a) × (r ≤ b) ⌝ }
-{
-    if a < b { a } else { b }
-}
-
-// As much of a part as there is room for is put at a place, and the place behind it is answered.
-fn put(out: &mut [u8], at: usize, part: &[u8]) -> usize
-    requires { ⌜ at ≤ length (now out) ⌝ }
-    ensures { λ r. ⌜ Counts r (now (out .exit)) ⌝ }
-{
-    let left = out.len() - at;
-    let n = least(part.len(), left);
-    bytes::copy(out, at, part, 0, n);
-    at + n
-}
-
-// The name of a new file beside the one at path, as create_temp takes it.
-fn name_beside(name: &mut [u8], path: &[u8]) -> usize
-    ensures { λ r. ⌜ Counts r (now (name .exit)) ⌝ }
-{
-    let at = put(name, 0, path);
-    put(name, at, b".new-XXXXXX")
-}
-
 // The file at path is replaced by a new one of these bytes beside it, whose name is made from the one given.
 fn replace_by(name: &mut [u8], path: &[u8], bytes: &[u8]) -> bool {
     let fd = os::create_temp(name);
@@ -155,23 +124,13 @@ fn replace_by(name: &mut [u8], path: &[u8], bytes: &[u8]) -> bool {
 // each has a name of its own.
 pub fn replace(path: &[u8], bytes: &[u8]) -> bool {
     let mut name = io::buffer();
-    let n = name_beside(&mut name, path);
+    let n = names::name_beside(&mut name, path);
     replace_by(&mut name[..n], path, bytes)
-}
-
-// A path as C takes it: at most 4,095 bytes of it, and zeros behind them.
-fn ended(path: &[u8]) -> [u8; 4096]
-    ensures { λ r. ⌜ Ended r ⌝ }
-{
-    let mut name = io::buffer();
-    put(&mut name, 0, path);
-    name[4095] = 0;
-    name
 }
 
 // Whether the name is that of a link. A link would be replaced itself, and the file that it leads to stay as it was.
 pub fn is_link(path: &[u8]) -> bool {
     let mut text = io::buffer();
-    let name = ended(path);
+    let name = names::ended(path);
     libc::readlink(&name, &mut text) >= 0
 }

@@ -1,0 +1,50 @@
+-- A closing that may be written, in 64 bytes: all of it is at their start. Assumes nothing.
+use Prim.Native.Nat.{ℕ, zero, suc, _+_, _/_, _≤_}
+use mathlib.Core.Path.{_≡_, ap₂}
+use mathlib.Core.List.{List}
+use mathlib.Core.Bool.{Bool, true, false}
+use native.Mathlib.Omega.{arith}
+use borrow.Author.Tests.{le-leb}
+use lib.Dec.{ltb}
+use lib.ListN.{length, take, drop}
+use lib.Seq.{take-append-seam}
+use Rattle.rules.specs.Words.{pick, both}
+use Rattle.rules.specs.Cards.{width}
+use Rattle.rules.specs.Numbers.{outcomeNumber, outcomeShown, barNumber, barPlace}
+use Rattle.rules.specs.Running.{over}
+use Rattle.rules.specs.Sheet.{closing}
+use Rattle.rules.specs.declared.State.{State}
+use Rattle.rules.specs.declared.Ending.{Ending}
+use Rattle.rules.specs.declared.Ending.the-variants.{Ran, NotRun}
+use Rattle.rules.proofs.Fields.{length-stop, length-line}
+use Rattle.rules.proofs.Tests.{false-true}
+use Rattle.card.specs.Written.{fits}
+use Rattle.says.specs.Told.{mayClose, Closed}
+
+width-small : (n x : ℕ) → width n x ≤ n + 1
+unfolding width
+width-small zero x = omega arith
+width-small (suc n) x = by-test (ltb x 10) (width-small n (x / 10))
+  where
+    by-test : (t : Bool) → width n (x / 10) ≤ n + 1 → pick t 1 (suc (width n (x / 10))) ≤ suc n + 1
+    by-test true h = omega arith
+    by-test false h = omega arith
+
+-- a Z card is 24 bytes long, and a line has two numbers of at most 21 digits
+closing-short : (e : Ending) (s : State) (count : ℕ) → length (closing e s count) ≤ 64
+closing-short (Ran o) s count = omega (arith, length-stop (outcomeNumber o) (s .location) count (outcomeShown o))
+closing-short (NotRun b) s count =
+    omega (arith, length-line (barNumber b) (barPlace b), width-small 20 (barNumber b), width-small 20 (barPlace b))
+
+by-fits : (t : Bool) (answer before after : List ℕ) (said : ℕ) → t ≡ true → said ≡ pick t (length answer) 0 → after ≡ pick t (over answer before) before
+    → take said after ≡ answer
+unfolding over
+by-fits true answer before after said e q r = rw (q, r) (take-append-seam answer (drop (length answer) before))
+by-fits false answer before after said e q r = false-true e
+
+pub closes-whole : (e : Ending) (s : State) (count : ℕ) (before after : List ℕ) (said : ℕ) → mayClose e s count ≡ true → 64 ≤ length before
+    → Closed (mayClose e s count) (closing e s count) before said after → take said after ≡ closing e s count
+closes-whole e s count before after said may room w =
+    by-fits (fits (mayClose e s count) (closing e s count) before) (closing e s count) before after said
+    (ap₂ both may (le-leb (length (closing e s count)) (length before) (omega (arith, closing-short e s count))))
+    (w .count-is) (w .bytes)
