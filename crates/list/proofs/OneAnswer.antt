@@ -34,6 +34,7 @@ one-cells κs a x y s t p q = (p .answer ∙ sym (q .answer), p .bytes ∙ sym (
 pub one-place : Agrees 1 write-bad-kinds.ps write-bad-kinds.r write-bad.Post (λ κs x y s t. (x ≡ y) × (now (s .0) ≡ now (t .0)))
 one-place κs a x y s t p q = (p .answer ∙ sym (q .answer), p .bytes ∙ sym (q .bytes))
 
-pub one-listing : Agrees 2 write-lines-kinds.ps write-lines-kinds.r write-lines.Post (λ κs x y s t. (x .written ≡ y .written) × (x .taken ≡ y .taken) × (now (s .0) ≡ now (t .0)))
+pub one-listing : Agrees 2 write-lines-kinds.ps write-lines-kinds.r write-lines.Post
+    (λ κs x y s t. (x .written ≡ y .written) × (x .taken ≡ y .taken) × (now (s .0) ≡ now (t .0)))
 one-listing κs a x y s t p q =
     (p .shown .answer ∙ sym (q .shown .answer), p .taken ∙ sym (q .taken), p .shown .bytes ∙ sym (q .shown .bytes))

@@ -72,7 +72,8 @@ traceLines d =
 
 unfoldable pub stopLine : List ℕ → List ℕ
 stopLine d =
-    bytes "stop  " ++ fieldIn d 1 2 ++ bytes "    at " ++ fieldIn d 3 4 ++ bytes "  orders " ++ fieldIn d 7 6 ++ bytes "  shows " ++ fieldIn d 13 11 ++ lineEnd ∷ []
+    bytes "stop  " ++ fieldIn d 1 2 ++ bytes "    at " ++ fieldIn d 3 4 ++
+    bytes "  orders " ++ fieldIn d 7 6 ++ bytes "  shows " ++ fieldIn d 13 11 ++ lineEnd ∷ []
 
 -- ---- what stands at the start of d
 
@@ -116,12 +117,16 @@ sizeOf d = sizeBy (cardOf d) d
 unfoldable pub badLine : ℕ → List ℕ
 badLine place = bytes "not a card at byte " ++ digits (width 20 place) place ++ lineEnd ∷ []
 
--- the cards of d from a place on, at most so many; the listing ends at the end of d, or where there is no card
-unfoldable pub listedFrom : ℕ → List ℕ → ℕ → List ℕ
-listedFrom zero d at = []
-listedFrom (suc k) d at =
-    pick (leb (length d) at) []
-    (pick (eqb (sizeOf (drop at d)) 0) (badLine at) (linesOf (drop at d) ++ listedFrom k d (at + sizeOf (drop at d))))
+-- The lines of what is left of a file from place `at` on, once so many bytes of it are passed: those of its cards, up to the end of the
+-- file or to where there is no card.
+unfoldable pub listedFrom : ℕ → ℕ → List ℕ → List ℕ
+listedFrom skip at [] = []
+listedFrom (suc k) at (b ∷ d) = listedFrom k (at + 1) d
+listedFrom zero at (b ∷ d) =
+    elim (sizeOf (b ∷ d)) [
+      | zero ↦ badLine at
+      | suc k ↦ linesOf (b ∷ d) ++ listedFrom k (at + 1) d
+    ]
 
 unfoldable pub listing : List ℕ → List ℕ
-listing d = listedFrom (length d) d 0
+listing d = listedFrom 0 0 d

@@ -21,19 +21,19 @@ abbrev μ-loop : tie.MeasureT-loop
 
 loop-holds : tie.Need-loop-holds Inv-loop μ-loop
 unfolding cellLines
-loop-holds c = (omega arith, refl, splice-none 32 (c .before .before .args .out .now))
+loop-holds c = let start : tie.Start Inv-loop μ-loop = search in (omega arith, refl, splice-none 32 (start .args .out .now))
 
 word-of-requires : tie.Need-word-of-requires Inv-loop μ-loop
 word-of-requires c κs = tt
 
 mul-put-cell : tie.Need-mul-put-cell Inv-loop μ-loop
-mul-put-cell c = omega (arith, c .before .before .before .before .before .before .pre)
+mul-put-cell c = let start : tie.Start Inv-loop μ-loop = search in omega (arith, start .pre)
 
 add-put-cell : tie.Need-add-put-cell Inv-loop μ-loop
-add-put-cell c = omega (arith, c .before .before .before .before .before .before .pre)
+add-put-cell c = let start : tie.Start Inv-loop μ-loop = search in omega (arith, start .pre)
 
 add-put-cell-2 : tie.Need-add-put-cell-2 Inv-loop μ-loop
-add-put-cell-2 c = omega (arith, c .before .before .before .before .before .before .pre)
+add-put-cell-2 c = let start : tie.Start Inv-loop μ-loop = search in omega (arith, start .pre)
 
 put-cell-requires : tie.Need-put-cell-requires Inv-loop μ-loop
 put-cell-requires c κs =
@@ -50,29 +50,37 @@ loop-less c = omega arith
 loop-again : tie.Need-loop-again Inv-loop μ-loop
 unfolding cellLines
 loop-again c =
-    let s = c .before .before .before .before .before .before .before .before .before in
-    let a = s .args in
-    let l = c .before .before .before .before .before .before .loop in
-    let i = l .i in
+    let put : tie.After-put-cell Inv-loop μ-loop = search in
+    let word : tie.After-word-of Inv-loop μ-loop = search in
+    let turn : tie.At-loop Inv-loop μ-loop = search in
+    let start : tie.Start Inv-loop μ-loop = search in
+    let a = start .args in
+    let v = turn .loop .inv in
+    let i = turn .loop .i in
     let d = a .rest .now in
-    let w = c .before .before .before .before .word-of .result in (
+    let w = word .word-of .result in
+    let lines = cellLines d (a .location) i in
+    let line = cellLine (a .location + i) in
+    let n = length-cells d (a .location) i in (
       omega arith,
-      c .before .before .put-cell .kept .0 ∙ l .inv .1,
-      c .before .before .put-cell .ensures
-          ∙ ap (splice (32 + 44 * i) (cellLine (a .location + i) w)) (l .inv .2)
-          ∙ splice-more 32 (32 + 44 * i) (cellLines d (a .location) i) (cellLine (a .location + i) w) (a .out .now) (omega (arith, length-cells d (a .location) i)) (omega (arith, length-cell (a .location + i) w, s .pre .0))
-          ∙ ap (λ (x : ℕ). splice 32 (cellLines d (a .location) i ++ cellLine (a .location + i) x) (a .out .now)) (c .before .before .before .before .word-of .ensures)
+      put .put-cell .kept .0 ∙ v .1,
+      put .put-cell .ensures
+          ∙ ap (splice (32 + 44 * i) (line w)) (v .2)
+          ∙ splice-more 32 (32 + 44 * i) lines (line w) (a .out .now) (omega (arith, n)) (omega (arith, length-cell (a .location + i) w, start .pre .0))
+          ∙ ap (λ (x : ℕ). splice 32 (lines ++ line x) (a .out .now)) (word .word-of .ensures)
           ∙ ap (λ (k : ℕ). splice 32 (cellLines d (a .location) k) (a .out .now)) (sym (add-one i)),
     )
 
 same-length : tie.Need-same-length Inv-loop μ-loop
-same-length c = c .before .loop .inv .1
+same-length c = let turn : tie.At-loop Inv-loop μ-loop = search in turn .loop .inv .1
 
 returns : tie.Need-returns Inv-loop μ-loop
 returns c =
-    let a = c .before .before .before .before .args in
-    let e : c .before .loop .i ≡ a .n = omega (arith, c .before .loop .inv .0) in
-    c .before .loop .inv .2 ∙ ap (λ (k : ℕ). splice 32 (cellLines (a .rest .now) (a .location) k) (a .out .now)) e
+    let turn : tie.At-loop Inv-loop μ-loop = search in
+    let start : tie.Start Inv-loop μ-loop = search in
+    let a = start .args in
+    let e : turn .loop .i ≡ a .n = omega (arith, turn .loop .inv .0) in
+    turn .loop .inv .2 ∙ ap (λ (k : ℕ). splice 32 (cellLines (a .rest .now) (a .location) k) (a .out .now)) e
 
 pub put-cells-spec : {M : Type 1} → statement M
 put-cells-spec =

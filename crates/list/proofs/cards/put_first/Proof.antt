@@ -38,7 +38,9 @@ returns c =
     let start : tie.Start = search in
     let a = start .args in
     let r = a .rest .now in
-    let h₁ = part-begin {p = bytes "first order " ++ take 3 (drop 1 r)} {e = 15} 15 (p₁ .put .ensures) (length-piece (bytes "first order ") r 1 3 (omega (arith, start .pre)) ∙ refl) refl (omega (arith, start .pre)) in
+    let h₁ =
+    part-begin {p = bytes "first order " ++ take 3 (drop 1 r)} {e = 15} 15
+    (p₁ .put .ensures) (length-piece (bytes "first order ") r 1 3 (omega (arith, start .pre)) ∙ refl) refl (omega (arith, start .pre)) in
     let h₂ = put-piece {e = 31} (bytes "     problem ") r 4 3 h₁ (p₂ .put2 .ensures) (omega (arith, start .pre)) refl (omega (arith, start .pre)) in
     put-more {e = 32} (10 ∷ []) 1 h₂ (ended .put-byte .ensures) refl refl (omega (arith, start .pre)) .same
 

@@ -42,9 +42,13 @@ returns c =
     let start : tie.Start = search in
     let a = start .args in
     let r = a .rest .now in
-    let h₁ = part-begin {p = a .title .now ++ take 4 (drop 1 r)} {e = 10} 10 (p₁ .put .ensures) (length-piece (a .title .now) r 1 4 (omega (arith, start .pre)) ∙ omega (arith, start .pre)) refl (omega (arith, start .pre)) in
+    let h₁ =
+    part-begin {p = a .title .now ++ take 4 (drop 1 r)} {e = 10} 10
+    (p₁ .put .ensures) (length-piece (a .title .now) r 1 4 (omega (arith, start .pre)) ∙ omega (arith, start .pre)) refl (omega (arith, start .pre)) in
     let h₂ = put-piece {e = 18} (bytes "  at ") r 5 3 h₁ (p₂ .put2 .ensures) (omega (arith, start .pre)) refl (omega (arith, start .pre)) in
-    let h₃ = put-piece {e = 31} (bytes "  problem ") r (a .back) 3 h₂ (p₃ .put3 .ensures) (omega (arith, start .pre)) refl (omega (arith, start .pre)) in
+    let h₃ =
+    put-piece {e = 31} (bytes "  problem ") r (a .back) 3
+    h₂ (p₃ .put3 .ensures) (omega (arith, start .pre)) refl (omega (arith, start .pre)) in
     put-more {e = 32} (10 ∷ []) 1 h₃ (ended .put-byte .ensures) refl refl (omega (arith, start .pre)) .same
 
 pub put-head-spec : {M : Type 1} → statement M

@@ -20,9 +20,10 @@ add-size c = search needs
 
 returns : tie.Need-returns
 returns c =
-    let s = c .before .before .before in
-    let a = s .args in
-    no-line (dataLines (a .rest .now) (a .location) (a .n)) (a .out .now) (omega (arith, c .if1 .taken, length-data (a .rest .now) (a .location) (a .n) (s .pre .0)))
+    let start : tie.Start = search in
+    let a = start .args in
+    no-line (dataLines (a .rest .now) (a .location) (a .n)) (a .out .now)
+    (omega (arith, c .if1 .taken, length-data (a .rest .now) (a .location) (a .n) (start .pre .0)))
 
 slice-aggregate-put-head : tie.Need-slice-aggregate-put-head
 slice-aggregate-put-head c = search needs
@@ -51,9 +52,12 @@ returns-2 c =
     let start : tie.Start = search in
     let a = start .args in
     let d = a .rest .now in
-    let h = part-begin {p = headLine (bytes "card  ") d (8 + 11 * a .n)} {e = 32} 32 (head .put-head .ensures) (length-head (bytes "card  ") d (8 + 11 * a .n) refl (omega arith) (omega (arith, start .pre .0))) refl (omega (arith, room .if1 .left)) in
+    let h =
+    part-begin {p = headLine (bytes "card  ") d (8 + 11 * a .n)} {e = 32} 32
+    (head .put-head .ensures) (length-head (bytes "card  ") d (8 + 11 * a .n) refl (omega arith) (omega (arith, start .pre .0))) refl (omega (arith, room .if1 .left)) in
     all (dataLines d (a .location) (a .n)) (a .out .now) _ (32 + 44 * a .n) (length-data d (a .location) (a .n) (start .pre .0)) (room .if1 .left)
-    (put-part {e = 32 + 44 * a .n} (cellLines d (a .location) (a .n)) (44 * a .n) h (cells .put-cells .ensures) (length-cells d (a .location) (a .n)) refl (room .if1 .left) .same)
+    (put-part {e = 32 + 44 * a .n} (cellLines d (a .location) (a .n)) (44 * a .n)
+    h (cells .put-cells .ensures) (length-cells d (a .location) (a .n)) refl (room .if1 .left) .same)
 
 pub write-data-spec : {M : Type 1} → statement M
 write-data-spec =

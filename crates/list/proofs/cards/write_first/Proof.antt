@@ -10,9 +10,9 @@ use Rattle.list.proofs.cards.write_first.Tie as tie
 
 returns : tie.Need-returns
 returns c =
-    let s = c .before .before .before in
-    let a = s .args in
-    no-line (firstLine (a .rest .now)) (a .out .now) (omega (arith, c .if1 .taken, length-first (a .rest .now) (s .pre)))
+    let start : tie.Start = search in
+    let a = start .args in
+    no-line (firstLine (a .rest .now)) (a .out .now) (omega (arith, c .if1 .taken, length-first (a .rest .now) (start .pre)))
 
 put-first-requires : tie.Need-put-first-requires
 put-first-requires c κs = search needs
@@ -22,9 +22,11 @@ same-length c = search needs
 
 returns-2 : tie.Need-returns-2
 returns-2 c =
-    let s = c .before .before .before .before .before .before .before in
-    let a = s .args in
-    all (firstLine (a .rest .now)) (a .out .now) _ 32 (length-first (a .rest .now) (s .pre)) (c .before .before .before .before .if1 .left) (c .before .before .put-first .ensures)
+    let put : tie.After-put-first = search in
+    let room : tie.Else1 = search in
+    let start : tie.Start = search in
+    let a = start .args in
+    all (firstLine (a .rest .now)) (a .out .now) _ 32 (length-first (a .rest .now) (start .pre)) (room .if1 .left) (put .put-first .ensures)
 
 pub write-first-spec : {M : Type 1} → statement M
 write-first-spec = tie.close (tie.spec returns put-first-requires same-length returns-2)

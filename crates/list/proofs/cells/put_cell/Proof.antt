@@ -45,8 +45,11 @@ returns c =
     let start : tie.Start = search in
     let a = start .args in
     let h₁ = put-begin {p = bytes "  "} {e = a .a + 2} 2 (blanks .put-run .ensures) refl refl (omega (arith, start .pre)) in
-    let h₂ = put-more {e = a .a + 5} (digits 3 (a .address)) 3 h₁ (address .put-field .ensures) (length-digits 3 (a .address)) (omega arith) (omega (arith, start .pre)) in
-    put-part {e = a .a + 44} (orderLine (bytes "  ") (a .w)) 39 h₂ (order .put-order .ensures) (length-order (bytes "  ") (a .w)) (omega arith) (omega (arith, start .pre)) .same
+    let h₂ =
+    put-more {e = a .a + 5} (digits 3 (a .address)) 3
+    h₁ (address .put-field .ensures) (length-digits 3 (a .address)) (omega arith) (omega (arith, start .pre)) in
+    put-part {e = a .a + 44} (orderLine (bytes "  ") (a .w)) 39
+    h₂ (order .put-order .ensures) (length-order (bytes "  ") (a .w)) (omega arith) (omega (arith, start .pre)) .same
 
 pub put-cell-spec : {M : Type 1} → statement M
 put-cell-spec =

@@ -32,18 +32,25 @@ length-shown address w l h = ap length (shown-is address w l h) ∙ length-cell 
 
 returns : tie.Need-returns
 returns c =
-    let a = c .before .before .args in
+    let start : tie.Start = search in
+    let a = start .args in
     nothing (cellShown (a .address) (a .word)) (a .out .now) (none-there (a .address) (a .word) (c .if1 .taken))
 
 returns-2 : tie.Need-returns-2
 returns-2 c =
-    let a = c .before .before .before .args in
-    nothing (cellShown (a .address) (a .word)) (a .out .now) (no-word (a .address) (a .word) (c .before .if1 .left) (c .if2 .taken))
+    let there : tie.Else1 = search in
+    let start : tie.Start = search in
+    let a = start .args in
+    nothing (cellShown (a .address) (a .word)) (a .out .now) (no-word (a .address) (a .word) (there .if1 .left) (c .if2 .taken))
 
 returns-3 : tie.Need-returns-3
 returns-3 c =
-    let a = c .before .before .before .before .args in
-    no-line (cellShown (a .address) (a .word)) (a .out .now) (omega (arith, c .if3 .taken, length-shown (a .address) (a .word) (c .before .before .if1 .left) (c .before .if2 .left)))
+    let word : tie.Else2 = search in
+    let there : tie.Else1 = search in
+    let start : tie.Start = search in
+    let a = start .args in
+    no-line (cellShown (a .address) (a .word)) (a .out .now)
+    (omega (arith, c .if3 .taken, length-shown (a .address) (a .word) (there .if1 .left) (word .if2 .left)))
 
 put-cell-requires : tie.Need-put-cell-requires
 put-cell-requires c κs = search needs
@@ -53,11 +60,16 @@ same-length c = search needs
 
 returns-4 : tie.Need-returns-4
 returns-4 c =
-    let a = c .before .before .before .before .before .before .before .before .args in
-    let l = c .before .before .before .before .before .before .if1 .left in
-    let w = c .before .before .before .before .before .if2 .left in
-    all (cellShown (a .address) (a .word)) (a .out .now) _ 44 (length-shown (a .address) (a .word) l w) (c .before .before .before .before .if3 .left)
-    (c .before .before .put-cell .ensures ∙ ap (λ l. splice 0 l (a .out .now)) (sym (shown-is (a .address) (a .word) l w)))
+    let put : tie.After-put-cell = search in
+    let room : tie.Else3 = search in
+    let word : tie.Else2 = search in
+    let there : tie.Else1 = search in
+    let start : tie.Start = search in
+    let a = start .args in
+    let l = there .if1 .left in
+    let w = word .if2 .left in
+    all (cellShown (a .address) (a .word)) (a .out .now) _ 44 (length-shown (a .address) (a .word) l w) (room .if3 .left)
+    (put .put-cell .ensures ∙ ap (λ l. splice 0 l (a .out .now)) (sym (shown-is (a .address) (a .word) l w)))
 
 pub write-cell-spec : {M : Type 1} → statement M
 write-cell-spec =

@@ -4,6 +4,7 @@ use mathlib.Core.Path.{sym, ap, _∙_}
 use Prim.Native.Nat.{ℕ}
 use borrow.Author.Tests.{lt-leb, le-leb, eq-eqb, ne-eqb, not-true, not-false}
 use lib.Dec.{eqb}
+use lib.ListN.{length, getD}
 use Rattle.rules.specs.Cards.{badFrom}
 use Rattle.list.specs.Listing.{isStop}
 use Rattle.card.proofs.Checks.{part-is}
@@ -20,14 +21,21 @@ shared-slice-read-if2 c = search needs
 
 returns-2 : tie.Need-returns-2
 unfolding isStop
-returns-2 c = simp (le-leb 24 _ (c .before .before .if1 .left), ne-eqb _ 90 (c .if2 .taken))
+returns-2 c = let long : tie.Else1 = search in simp (le-leb 24 _ (long .if1 .left), ne-eqb _ 90 (c .if2 .taken))
 
 first-bad-requires : tie.Need-first-bad-requires
 first-bad-requires c κs = search needs
 
 returns-3 : tie.Need-returns-3
 unfolding isStop
-returns-3 c = simp (le-leb 24 _ (c .before .before .before .before .if1 .left), eq-eqb _ 90 (c .before .before .if2 .left), ne-eqb (badFrom 0 (c .before .before .before .before .before .before .args .rest .now) 1 12) 13 (λ e. c .if3 .taken (c .before .first-bad .ensures ∙ e)))
+returns-3 c =
+    let digits : tie.After-first-bad = search in
+    let kind : tie.Else2 = search in
+    let long : tie.Else1 = search in
+    let start : tie.Start = search in
+    let d = start .args .rest .now in
+    let numbers = ne-eqb (badFrom 0 d 1 12) 13 (λ e. c .if3 .taken (digits .first-bad .ensures ∙ e)) in
+    simp (le-leb 24 (length d) (long .if1 .left), eq-eqb (getD d 0 0) 90 (kind .if2 .left), numbers)
 
 shared-slice-read-is-sign : tie.Need-shared-slice-read-is-sign
 shared-slice-read-is-sign c = search needs
@@ -37,7 +45,17 @@ is-sign-requires c κs = search needs
 
 returns-4 : tie.Need-returns-4
 unfolding isStop
-returns-4 c = simp (le-leb 24 _ (c .before .before .before .before .before .before .before .if1 .left), eq-eqb _ 90 (c .before .before .before .before .before .if2 .left), eq-eqb (badFrom 0 (c .before .before .before .before .before .before .before .before .before .args .rest .now) 1 12) 13 (sym (c .before .before .before .before .first-bad .ensures) ∙ c .before .before .before .if3 .left), sym (c .before .is-sign .ensures) ∙ not-true _ (c .if4 .taken))
+returns-4 c =
+    let sign : tie.After-is-sign = search in
+    let good : tie.Else3 = search in
+    let digits : tie.After-first-bad = search in
+    let kind : tie.Else2 = search in
+    let long : tie.Else1 = search in
+    let start : tie.Start = search in
+    let d = start .args .rest .now in
+    let numbers = eq-eqb (badFrom 0 d 1 12) 13 (sym (digits .first-bad .ensures) ∙ good .if3 .left) in
+    let unsigned = sym (sign .is-sign .ensures) ∙ not-true _ (c .if4 .taken) in
+    simp (le-leb 24 (length d) (long .if1 .left), eq-eqb (getD d 0 0) 90 (kind .if2 .left), numbers, unsigned)
 
 sub-word : tie.Need-sub-word
 sub-word c = search needs
@@ -53,7 +71,19 @@ first-bad-requires-2 c κs = search needs
 
 returns-5 : tie.Need-returns-5
 unfolding isStop
-returns-5 c = simp (le-leb 24 _ (c .before .before .before .before .before .before .before .before .before .if1 .left), eq-eqb _ 90 (c .before .before .before .before .before .before .before .if2 .left), eq-eqb (badFrom 0 (c .before .before .before .before .before .before .before .before .before .before .before .args .rest .now) 1 12) 13 (sym (c .before .before .before .before .before .before .first-bad .ensures) ∙ c .before .before .before .before .before .if3 .left), sym (c .before .before .before .is-sign .ensures) ∙ not-false _ (c .before .before .if4 .left)) (ap (λ (k : ℕ). eqb k 11) (c .first-bad2 .ensures ∙ ap (λ (l : List ℕ). badFrom 0 l 1 10) (part-is (c .before .before .before .before .before .before .before .before .before .before .before .args .rest .now) 13)))
+returns-5 c =
+    let signed : tie.Else4 = search in
+    let sign : tie.After-is-sign = search in
+    let good : tie.Else3 = search in
+    let digits : tie.After-first-bad = search in
+    let kind : tie.Else2 = search in
+    let long : tie.Else1 = search in
+    let start : tie.Start = search in
+    let d = start .args .rest .now in
+    let numbers = eq-eqb (badFrom 0 d 1 12) 13 (sym (digits .first-bad .ensures) ∙ good .if3 .left) in
+    let sign-there = sym (sign .is-sign .ensures) ∙ not-false _ (signed .if4 .left) in
+    simp (le-leb 24 (length d) (long .if1 .left), eq-eqb (getD d 0 0) 90 (kind .if2 .left), numbers, sign-there)
+    (ap (λ (k : ℕ). eqb k 11) (c .first-bad2 .ensures ∙ ap (λ (l : List ℕ). badFrom 0 l 1 10) (part-is d 13)))
 
 pub is-stop-spec : {M : Type 1} → statement M
 is-stop-spec =

@@ -17,14 +17,17 @@ shared-slice-read-if2 c = search needs
 
 returns-2 : tie.Need-returns-2
 unfolding isTrace
-returns-2 c = simp (le-leb 77 _ (c .before .before .if1 .left), ne-eqb _ 88 (c .if2 .taken))
+returns-2 c = let long : tie.Else1 = search in simp (le-leb 77 _ (long .if1 .left), ne-eqb _ 88 (c .if2 .taken))
 
 first-bad-requires : tie.Need-first-bad-requires
 first-bad-requires c κs = search needs
 
 returns-3 : tie.Need-returns-3
 unfolding isTrace
-returns-3 c = simp (le-leb 77 _ (c .before .before .before .if1 .left), eq-eqb _ 88 (c .before .if2 .left)) (ap (λ (k : ℕ). eqb k 77) (c .first-bad .ensures))
+returns-3 c =
+    let kind : tie.Else2 = search in
+    let long : tie.Else1 = search in
+    simp (le-leb 77 _ (long .if1 .left), eq-eqb _ 88 (kind .if2 .left)) (ap (λ (k : ℕ). eqb k 77) (c .first-bad .ensures))
 
 pub is-trace-spec : {M : Type 1} → statement M
 is-trace-spec =

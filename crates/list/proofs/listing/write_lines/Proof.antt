@@ -13,13 +13,19 @@ enum-known-location : tie.Need-enum-known-location
 enum-known-location c = search needs
 
 write-data-requires : tie.Need-write-data-requires
-write-data-requires c κs = data-fits _ (sym (c .before .before .before .before .read-card .ensures) ∙ c .before .before .location .given .1)
+write-data-requires c κs =
+    let known : tie.After-location = search in
+    let card : tie.After-read-card = search in
+    data-fits _ (sym (card .read-card .ensures) ∙ known .location .given .1)
 
 enum-told : tie.Need-enum-told
 enum-told c = search needs
 
 write-first-requires : tie.Need-write-first-requires
-write-first-requires c κs = first-fits _ (sym (c .before .before .before .read-card .ensures) ∙ c .before .enum-told .given .1)
+write-first-requires c κs =
+    let first : tie.After-enum-told = search in
+    let card : tie.After-read-card = search in
+    first-fits _ (sym (card .read-card .ensures) ∙ first .enum-told .given .1)
 
 enum-told-2 : tie.Need-enum-told-2
 enum-told-2 c = search needs
@@ -34,22 +40,38 @@ same-length : tie.Need-same-length
 same-length c = search needs
 
 returns : tie.Need-returns
-returns c = as-card _ _ _ _ _ (sym (c .before .before .before .before .before .location .given .1) ∙ c .before .before .before .before .before .before .before .read-card .ensures) (record { shown = c .before .before .write-data .ensures; taken = refl })
+returns c =
+    let put : tie.After-write-data = search in
+    let known : tie.After-location = search in
+    let card : tie.After-read-card = search in
+    as-card _ _ _ _ _ (sym (known .location .given .1) ∙ card .read-card .ensures)
+    (record { shown = put .write-data .ensures; taken = refl })
 
 same-length-2 : tie.Need-same-length-2
 same-length-2 c = search needs
 
 returns-2 : tie.Need-returns-2
-returns-2 c = as-card _ _ _ _ _ (sym (c .before .before .before .before .enum-told .given .1) ∙ c .before .before .before .before .before .before .read-card .ensures) (record { shown = c .before .before .write-first .ensures; taken = refl })
+returns-2 c =
+    let put : tie.After-write-first = search in
+    let first : tie.After-enum-told = search in
+    let card : tie.After-read-card = search in
+    as-card _ _ _ _ _ (sym (first .enum-told .given .1) ∙ card .read-card .ensures)
+    (record { shown = put .write-first .ensures; taken = refl })
 
 same-length-3 : tie.Need-same-length-3
 same-length-3 c = search needs
 
 returns-3 : tie.Need-returns-3
-returns-3 c = as-card _ _ _ _ _ (sym (c .before .before .before .before .enum-told2 .given .1) ∙ c .before .before .before .before .before .before .read-card .ensures) (c .before .before .write-other .ensures)
+returns-3 c =
+    let put : tie.After-write-other = search in
+    let bad : tie.After-enum-told2 = search in
+    let card : tie.After-read-card = search in
+    as-card _ _ _ _ _ (sym (bad .enum-told2 .given .1) ∙ card .read-card .ensures) (put .write-other .ensures)
 
 returns-4 : tie.Need-returns-4
-returns-4 c = as-card _ _ _ _ _ (sym (c .enum-told3 .given .1) ∙ c .before .before .read-card .ensures) (record { shown = nothing _ _ refl; taken = refl })
+returns-4 c =
+    let card : tie.After-read-card = search in
+    as-card _ _ _ _ _ (sym (c .enum-told3 .given .1) ∙ card .read-card .ensures) (record { shown = nothing _ _ refl; taken = refl })
 
 pub write-lines-spec : {M : Type 1} → statement M
 write-lines-spec =

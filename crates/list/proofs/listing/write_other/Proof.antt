@@ -11,28 +11,47 @@ is-trace-requires c κs = search needs
 
 write-trace-requires : tie.Need-write-trace-requires
 write-trace-requires c κs =
-    trace-long _ (sym (c .before .before .is-trace .ensures) ∙ c .before .if1 .taken)
+    let is : tie.Then1 = search in
+    let trace : tie.After-is-trace = search in
+    trace-long _ (sym (trace .is-trace .ensures) ∙ is .if1 .taken)
 
 same-length : tie.Need-same-length
 same-length c = search needs
 
 returns : tie.Need-returns
-returns c = as-trace _ _ _ _ (sym (c .before .before .before .before .before .is-trace .ensures) ∙ c .before .before .before .before .if1 .taken) (c .before .before .write-trace .ensures)
+returns c =
+    let written : tie.After-write-trace = search in
+    let is : tie.Then1 = search in
+    let trace : tie.After-is-trace = search in
+    as-trace _ _ _ _ (sym (trace .is-trace .ensures) ∙ is .if1 .taken) (written .write-trace .ensures)
 
 is-stop-requires : tie.Need-is-stop-requires
 is-stop-requires c κs = search needs
 
 write-stop-requires : tie.Need-write-stop-requires
-write-stop-requires c κs = stop-long _ (sym (c .before .before .is-stop .ensures) ∙ c .before .if2 .taken)
+write-stop-requires c κs =
+    let is : tie.Then2 = search in
+    let stop : tie.After-is-stop = search in
+    stop-long _ (sym (stop .is-stop .ensures) ∙ is .if2 .taken)
 
 same-length-2 : tie.Need-same-length-2
 same-length-2 c = search needs
 
 returns-2 : tie.Need-returns-2
-returns-2 c = as-stop _ _ _ _ (sym (c .before .before .before .before .before .before .before .is-trace .ensures) ∙ c .before .before .before .before .before .before .if1 .left) (sym (c .before .before .before .before .before .is-stop .ensures) ∙ c .before .before .before .before .if2 .taken) (c .before .before .write-stop .ensures)
+returns-2 c =
+    let written : tie.After-write-stop = search in
+    let is : tie.Then2 = search in
+    let stop : tie.After-is-stop = search in
+    let not : tie.Else1 = search in
+    let trace : tie.After-is-trace = search in
+    as-stop _ _ _ _ (sym (trace .is-trace .ensures) ∙ not .if1 .left) (sym (stop .is-stop .ensures) ∙ is .if2 .taken) (written .write-stop .ensures)
 
 returns-3 : tie.Need-returns-3
-returns-3 c = as-none _ _ (sym (c .before .before .before .is-trace .ensures) ∙ c .before .before .if1 .left) (sym (c .before .is-stop .ensures) ∙ c .if2 .left) (nothing _ _ refl)
+returns-3 c =
+    let stop : tie.After-is-stop = search in
+    let not : tie.Else1 = search in
+    let trace : tie.After-is-trace = search in
+    as-none _ _ (sym (trace .is-trace .ensures) ∙ not .if1 .left) (sym (stop .is-stop .ensures) ∙ c .if2 .left) (nothing _ _ refl)
 
 pub write-other-spec : {M : Type 1} → statement M
 write-other-spec =

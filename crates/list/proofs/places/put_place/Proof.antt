@@ -38,7 +38,9 @@ returns c =
     let start : tie.Start = search in
     let a = start .args in
     let h₁ = put-begin {p = bytes "not a card at byte "} {e = 19} 19 (text .put-run .ensures) refl refl (omega (arith, start .pre)) in
-    let h₂ = put-more {e = 19 + a .n} (digits (a .n) (a .place)) (a .n) h₁ (place .put-field .ensures) (length-digits (a .n) (a .place)) refl (omega (arith, start .pre)) in
+    let h₂ =
+    put-more {e = 19 + a .n} (digits (a .n) (a .place)) (a .n)
+    h₁ (place .put-field .ensures) (length-digits (a .n) (a .place)) refl (omega (arith, start .pre)) in
     put-more {e = 20 + a .n} (10 ∷ []) 1 h₂ (ended .put-byte .ensures) refl (omega arith) (start .pre) .same
 
 pub put-place-spec : {M : Type 1} → statement M

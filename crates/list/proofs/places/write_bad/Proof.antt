@@ -1,5 +1,5 @@
 -- `list::places::write_bad` meets its contract: there is no room, or the digits stand behind their text. Assumes nothing.
-use mathlib.Core.List.{[], _∷_, _++_}
+use mathlib.Core.List.{List, [], _∷_, _++_}
 use mathlib.Core.Path.{_≡_, ap, _∙_}
 use Prim.Native.Nat.{ℕ, _+_}
 use native.Mathlib.Omega.{arith}
@@ -41,8 +41,10 @@ returns-2 c =
     let width : tie.After-width-of = search in
     let start : tie.Start = search in
     let a = start .args in
-    all (badLine (a .place)) (a .out .now) _ (20 + width .width-of .result) (omega (arith, length-bad (a .place), width .width-of .ensures .0)) (room .if1 .left)
-    (put .put-place .ensures ∙ ap (λ (n : ℕ). splice 0 (bytes "not a card at byte " ++ digits n (a .place) ++ 10 ∷ []) (a .out .now)) (width .width-of .ensures .0))
+    let line : ℕ → List ℕ = λ n. bytes "not a card at byte " ++ digits n (a .place) ++ 10 ∷ [] in
+    all (badLine (a .place)) (a .out .now) _ (20 + width .width-of .result)
+    (omega (arith, length-bad (a .place), width .width-of .ensures .0)) (room .if1 .left)
+    (put .put-place .ensures ∙ ap (λ (n : ℕ). splice 0 (line n) (a .out .now)) (width .width-of .ensures .0))
 
 pub write-bad-spec : {M : Type 1} → statement M
 write-bad-spec =

@@ -52,7 +52,9 @@ returns c =
     let start : tie.Start = search in
     let a = start .args in
     let r = a .rest .now in
-    let h₁ = part-begin {p = bytes "stop  " ++ take 2 (drop 1 r)} {e = 8} 8 (p₁ .put .ensures) (length-piece (bytes "stop  ") r 1 2 (omega (arith, start .pre)) ∙ refl) refl (omega (arith, start .pre)) in
+    let h₁ =
+    part-begin {p = bytes "stop  " ++ take 2 (drop 1 r)} {e = 8} 8
+    (p₁ .put .ensures) (length-piece (bytes "stop  ") r 1 2 (omega (arith, start .pre)) ∙ refl) refl (omega (arith, start .pre)) in
     let h₂ = put-piece {e = 19} (bytes "    at ") r 3 4 h₁ (p₂ .put2 .ensures) (omega (arith, start .pre)) refl (omega (arith, start .pre)) in
     let h₃ = put-piece {e = 34} (bytes "  orders ") r 7 6 h₂ (p₃ .put3 .ensures) (omega (arith, start .pre)) refl (omega (arith, start .pre)) in
     let h₄ = put-piece {e = 53} (bytes "  shows ") r 13 11 h₃ (p₄ .put4 .ensures) (omega (arith, start .pre)) refl (omega (arith, start .pre)) in

@@ -10,9 +10,9 @@ use Rattle.list.proofs.stops.write_stop.Tie as tie
 
 returns : tie.Need-returns
 returns c =
-    let s = c .before .before .before in
-    let a = s .args in
-    no-line (stopLine (a .rest .now)) (a .out .now) (omega (arith, c .if1 .taken, length-stop (a .rest .now) (s .pre)))
+    let start : tie.Start = search in
+    let a = start .args in
+    no-line (stopLine (a .rest .now)) (a .out .now) (omega (arith, c .if1 .taken, length-stop (a .rest .now) (start .pre)))
 
 put-stop-requires : tie.Need-put-stop-requires
 put-stop-requires c κs = search needs
@@ -22,9 +22,11 @@ same-length c = search needs
 
 returns-2 : tie.Need-returns-2
 returns-2 c =
-    let s = c .before .before .before .before .before .before .before in
-    let a = s .args in
-    all (stopLine (a .rest .now)) (a .out .now) _ 54 (length-stop (a .rest .now) (s .pre)) (c .before .before .before .before .if1 .left) (c .before .before .put-stop .ensures)
+    let put : tie.After-put-stop = search in
+    let room : tie.Else1 = search in
+    let start : tie.Start = search in
+    let a = start .args in
+    all (stopLine (a .rest .now)) (a .out .now) _ 54 (length-stop (a .rest .now) (start .pre)) (room .if1 .left) (put .put-stop .ensures)
 
 pub write-stop-spec : {M : Type 1} → statement M
 write-stop-spec = tie.close (tie.spec returns put-stop-requires same-length returns-2)

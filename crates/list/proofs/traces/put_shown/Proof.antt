@@ -81,12 +81,20 @@ returns c =
     let start : tie.Start = search in
     let a = start .args in
     let r = a .rest .now in
-    let h₁ = part-begin {p = bytes "  loop box   " ++ take 3 (drop 32 r)} {e = 148} 16 (p₁ .put .ensures) (length-piece (bytes "  loop box   ") r 32 3 (omega (arith, start .pre)) ∙ refl) refl (omega (arith, start .pre)) in
+    let h₁ =
+    part-begin {p = bytes "  loop box   " ++ take 3 (drop 32 r)} {e = 148} 16
+    (p₁ .put .ensures) (length-piece (bytes "  loop box   ") r 32 3 (omega (arith, start .pre)) ∙ refl) refl (omega (arith, start .pre)) in
     let h₂ = put-piece {e = 152} (bytes " ") r 35 3 h₁ (p₂ .put2 .ensures) (omega (arith, start .pre)) refl (omega (arith, start .pre)) in
     let h₃ = put-piece {e = 156} (bytes " ") r 38 3 h₂ (p₃ .put3 .ensures) (omega (arith, start .pre)) refl (omega (arith, start .pre)) in
-    let h₄ = put-piece {e = 181} (10 ∷ bytes "  A's word   ") r 41 11 h₃ (p₄ .put4 .ensures) (omega (arith, start .pre)) refl (omega (arith, start .pre)) in
-    let h₅ = put-piece {e = 206} (10 ∷ bytes "  B's word   ") r 52 11 h₄ (p₅ .put5 .ensures) (omega (arith, start .pre)) refl (omega (arith, start .pre)) in
-    let h₆ = put-piece {e = 231} (10 ∷ bytes "  cell 000   ") r 63 11 h₅ (p₆ .put6 .ensures) (omega (arith, start .pre)) refl (omega (arith, start .pre)) in
+    let h₄ =
+    put-piece {e = 181} (10 ∷ bytes "  A's word   ") r 41 11
+    h₃ (p₄ .put4 .ensures) (omega (arith, start .pre)) refl (omega (arith, start .pre)) in
+    let h₅ =
+    put-piece {e = 206} (10 ∷ bytes "  B's word   ") r 52 11
+    h₄ (p₅ .put5 .ensures) (omega (arith, start .pre)) refl (omega (arith, start .pre)) in
+    let h₆ =
+    put-piece {e = 231} (10 ∷ bytes "  cell 000   ") r 63 11
+    h₅ (p₆ .put6 .ensures) (omega (arith, start .pre)) refl (omega (arith, start .pre)) in
     put-more {e = 232} (10 ∷ []) 1 h₆ (ended .put-byte .ensures) refl refl (omega (arith, start .pre)) .same
 
 pub put-shown-spec : {M : Type 1} → statement M

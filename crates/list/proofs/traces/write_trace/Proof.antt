@@ -10,9 +10,9 @@ use Rattle.list.proofs.traces.write_trace.Tie as tie
 
 returns : tie.Need-returns
 returns c =
-    let s = c .before .before .before in
-    let a = s .args in
-    no-line (traceLines (a .rest .now)) (a .out .now) (omega (arith, c .if1 .taken, length-trace (a .rest .now) (s .pre)))
+    let start : tie.Start = search in
+    let a = start .args in
+    no-line (traceLines (a .rest .now)) (a .out .now) (omega (arith, c .if1 .taken, length-trace (a .rest .now) (start .pre)))
 
 put-trace-requires : tie.Need-put-trace-requires
 put-trace-requires c κs = search needs
@@ -22,9 +22,11 @@ same-length c = search needs
 
 returns-2 : tie.Need-returns-2
 returns-2 c =
-    let s = c .before .before .before .before .before .before .before in
-    let a = s .args in
-    all (traceLines (a .rest .now)) (a .out .now) _ 232 (length-trace (a .rest .now) (s .pre)) (c .before .before .before .before .if1 .left) (c .before .before .put-trace .ensures)
+    let put : tie.After-put-trace = search in
+    let room : tie.Else1 = search in
+    let start : tie.Start = search in
+    let a = start .args in
+    all (traceLines (a .rest .now)) (a .out .now) _ 232 (length-trace (a .rest .now) (start .pre)) (room .if1 .left) (put .put-trace .ensures)
 
 pub write-trace-spec : {M : Type 1} → statement M
 write-trace-spec = tie.close (tie.spec returns put-trace-requires same-length returns-2)
