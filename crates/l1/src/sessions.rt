@@ -9,7 +9,7 @@ ghost use Rattle.machine.specs.Lent.{LoadRight};
 ghost use Rattle.calls.specs.Words.{isTraced, switchesOf};
 ghost use Rattle.l1.specs.Going.{mayRefill, goneOn, WentOn};
 ghost use Rattle.l1.specs.New.{zeros};
-use crate::telling::send_first;
+use crate::telling::send_cards;
 use crate::telling::tell;
 use crate::telling::tell_bar;
 use calls::Options;
@@ -65,7 +65,7 @@ fn go_on(
         let n = x.written;
         let s = x.state;
         count += done;
-        if !send_first(out, n) {
+        if !send_cards(out, n, x) {
             return Gone {
                 sent: false,
                 ending,

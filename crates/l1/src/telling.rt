@@ -8,6 +8,7 @@ ghost use Rattle.rules.specs.Sheet.{closing};
 ghost use Rattle.list.specs.Marked.{markedLines};
 ghost use Rattle.says.specs.Told.{mayClose};
 use libc::STDOUT_FILENO;
+use machine::Ran;
 use rules::Bar;
 use rules::Deck;
 use rules::Ending;
@@ -27,6 +28,13 @@ pub fn send_first(room: &[u8], n: usize) -> bool
     requires { ⌜ n ≤ length (now room) ⌝ }
 {
     send(&room[0..n])
+}
+
+// The first n bytes of a room, which are the cards of a run in it.
+pub fn send_cards(room: &[u8], n: usize, ran: Ran) -> bool
+    requires { ⌜ (n ≡ ran .written) × (n ≤ length (now room)) ⌝ }
+{
+    send_first(room, n)
 }
 
 // Bytes that are the closing of such a call.

@@ -44,12 +44,12 @@ add-count c =
     let run : tie.After-run Inv-loop μ-loop = search in
     omega (arith, at .loop .inv .2, count-fits (call run) (run .run .ensures), start .good, start .fits)
 
-send-first-requires : tie.Need-send-first-requires Inv-loop μ-loop
-send-first-requires c κs =
+send-cards-requires : tie.Need-send-cards-requires Inv-loop μ-loop
+send-cards-requires c κs =
     let at : tie.At-loop Inv-loop μ-loop = search in
     let run : tie.After-run Inv-loop μ-loop = search in
     let e : length (run .run .last .1 .1 .0) ≡ length (at .loop .out) = search needs in
-    omega (arith, written-fits (call run) (run .run .ensures) e, e)
+    (refl, omega (arith, written-fits (call run) (run .run .ensures) e, e))
 
 same-length : tie.Need-same-length Inv-loop μ-loop
 same-length c = search needs
@@ -117,7 +117,7 @@ go-on-spec =
     loop-holds
     run-requires
     add-count
-    send-first-requires
+    send-cards-requires
     same-length
     same-length-2
     same-length-3
