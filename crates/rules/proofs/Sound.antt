@@ -96,7 +96,8 @@ module _ (v : List Cell) (deck : List ℕ) (behind : ℕ) (s : State) (budget : 
       let e₄ = both-second (leb (s .counter) 9999) _ e₃ in
       let e₅ = both-second (leb (s .problem) 999) _ e₄ in
       let e₆ = both-second (leb (s .mode) 1) _ e₅ in
-      let e₇ = both-second (leb (s .tracing) (s .mode)) _ e₆ in
+      let e₇ = both-second (leb (s .tracing) 1) _ e₆ in
+      let e₈ = both-second (leb (s .tracing) (s .mode)) _ e₇ in
       let box = both-first (boxFits s) _ e₂ in
       let rest = both-second (leb (countA s) 999) _ box in (
         leb-true budget 999999 (both-first (leb budget 999999) _ e),
@@ -108,10 +109,10 @@ module _ (v : List Cell) (deck : List ℕ) (behind : ℕ) (s : State) (budget : 
           counter = leb-true (s .counter) 9999 (both-first (leb (s .counter) 9999) _ e₃);
           problem = leb-true (s .problem) 999 (both-first (leb (s .problem) 999) _ e₄);
           mode = leb-true (s .mode) 1 (both-first (leb (s .mode) 1) _ e₅);
-          tracing = leb-true (s .tracing) (s .mode) (both-first (leb (s .tracing) (s .mode)) _ e₆);
-          reader = both-second (isOwned (cellAt v 0)) _ e₇;
+          tracing = leb-true (s .tracing) (s .mode) (both-first (leb (s .tracing) (s .mode)) _ e₇);
+          reader = both-second (isOwned (cellAt v 0)) _ e₈;
         },
-        both-first (isOwned (cellAt v 0)) _ e₇,
+        both-first (isOwned (cellAt v 0)) _ e₈,
       )
 
   pub steady-fits : budget ≤ 999999 → Steady deck behind s → isOwned (cellAt v 0) ≡ true → stateFits v deck behind s budget ≡ true
@@ -126,6 +127,7 @@ module _ (v : List Cell) (deck : List ℕ) (behind : ℕ) (s : State) (budget : 
         le-leb (s .counter) 9999 (h .counter),
         le-leb (s .problem) 999 (h .problem),
         le-leb (s .mode) 1 (h .mode),
+        le-leb (s .tracing) 1 (omega (arith, h .tracing, h .mode)),
         le-leb (s .tracing) (s .mode) (h .tracing),
         o,
       ) (h .reader)
