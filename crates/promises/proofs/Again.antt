@@ -17,7 +17,8 @@ use Rattle.promises.specs.Counting.{Comes, usedUp, ended}
 use Rattle.promises.specs.Again.{following, again, MayGoOnLater, MetAgain, SameOrderNextRun}
 use Rattle.promises.proofs.Undone.{same-order-again}
 use Rattle.promises.proofs.Counting.{count-is-steps}
-use Rattle.promises.proofs.Entry.{Entered, course, entered, ran-course, left-view, again-entered}
+use Rattle.rules.proofs.Entered.{Entered, course, ran-course}
+use Rattle.promises.proofs.Entry.{entered, left-view, again-entered}
 
 same-outcome : {o p : Outcome} → Ran o ≡ Ran p → o ≡ p
 same-outcome e = cc

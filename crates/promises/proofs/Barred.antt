@@ -22,7 +22,7 @@ use Rattle.rules.specs.declared.Ending.the-variants.{Ran, NotRun}
 use Rattle.rules.proofs.Tests.{false-true}
 use Rattle.rules.proofs.RoomRuns.{NotFull}
 use Rattle.promises.specs.Rooms.{isFull, within}
-use Rattle.promises.proofs.Entry.{Entered}
+use Rattle.rules.proofs.Entered.{Entered}
 
 -- ---- 22
 

@@ -25,7 +25,8 @@ use Rattle.rules.proofs.Rooms.{inRoom, sentBefore}
 use Rattle.rules.proofs.RoomRuns.{NotFull, courseBehind, count-within, run-alike, run-left}
 use Rattle.promises.specs.Again.{again}
 use Rattle.promises.specs.Rooms.{isFull, Came, cardsOf, cameTo, joined, roomAfterRoom}
-use Rattle.promises.proofs.Entry.{Entered, course, ran-course, begun-sound, left-sound, again-entered}
+use Rattle.rules.proofs.Entered.{Entered, course, ran-course, begun-sound, left-sound}
+use Rattle.promises.proofs.Entry.{again-entered}
 use Rattle.promises.proofs.Again.{ran-outcome, begun-behind}
 use Rattle.promises.proofs.Barred.{full-is, same-outcome, not-full}
 

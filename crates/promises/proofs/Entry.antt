@@ -9,7 +9,7 @@ use lib.ListN.{length}
 use borrow.Author.Tests.{eq-eqb}
 use Rattle.rules.specs.Drum.{view, marksOf, overlay, drumFits}
 use Rattle.rules.specs.Decks.{deckOf}
-use Rattle.rules.specs.Running.{Course, runFrom, RunCall, RunResult, begun, inputs, stateFits, ranAs, ranOn, ran}
+use Rattle.rules.specs.Running.{RunCall, RunResult, stateFits, ranAs, ranOn, ran}
 use Rattle.rules.specs.declared.Cell.{Cell}
 use Rattle.rules.specs.declared.Switches.{Switches}
 use Rattle.rules.specs.declared.Outcome.{Outcome}
@@ -18,26 +18,12 @@ use Rattle.rules.specs.declared.Deck.the-variants.{Good, Faulty}
 use Rattle.rules.specs.declared.Bar.{Bar}
 use Rattle.rules.specs.declared.Bar.the-variants.{BadDrum, BadDeck, BadState}
 use Rattle.rules.specs.declared.Ending.the-variants.{Ran, NotRun}
-use Rattle.rules.proofs.Views.{Fit, fit, length-overlay, length-view, length-marks, view-again}
-use Rattle.rules.proofs.Tails.{good-tail}
-use Rattle.rules.proofs.Sound.{cells-begun, marks-of-fit, words-fit, steady-from, steady-fits}
-use Rattle.rules.proofs.SoundChanges.{Sound}
-use Rattle.rules.proofs.SoundOrders.{run-sound}
+use Rattle.rules.proofs.Views.{length-overlay, length-marks, view-again}
+use Rattle.rules.proofs.Sound.{marks-of-fit, words-fit, steady-fits}
+use Rattle.rules.proofs.Entered.{Entered, course, ran-course, lent, left-sound}
 use Rattle.promises.specs.Again.{following}
 
 -- ---- what the entry checks found
-
-pub record Entered (c : RunCall) : Type 0 where
-  pub drum-fits : drumFits (length (c .drum)) (c .marks) (view (c .drum) (c .marks)) ≡ true
-  pub first : ℕ
-  pub order : ℕ
-  pub problem : ℕ
-  pub deck-good : deckOf (c .deck) ≡ Good first order problem
-  pub state-fits : stateFits (view (c .drum) (c .marks)) (c .deck) first (c .state) (c .budget) ≡ true
-
--- the run that is then made
-abbrev pub course : RunCall → Course
-course c = runFrom (inputs c) (c .budget) (begun c) 0
 
 differs : {A : Type 0} (o : Outcome) (b : Bar) → NotRun b ≡ Ran o → A
 differs o b e = let z : _≡_ {A = ℕ} 0 1 = cc in let y : ⊥ = omega arith in absurd y
@@ -60,32 +46,12 @@ entered c o e = by-fit (drumFits (length (c .drum)) (c .marks) (view (c .drum) (
     by-fit true f = entered-on c o f (deckOf (c .deck)) refl (rw f at e)
     by-fit false f = differs o BadDrum (rw f at e)
 
-pub ran-course : (c : RunCall) → Entered c → ran c ≡ ranAs c (course c)
-unfolding ran ranOn
-ran-course c h = rw (h .drum-fits, h .deck-good, h .state-fits)
-
 -- ---- and what they find of what the run left
 
 module _ (c : RunCall) (h : Entered c) where
-  lent : Fit (c .drum) (c .marks)
-  lent = fit (c .drum) (c .marks) (h .drum-fits)
-
-  pub begun-sound : Sound (c .deck) (h .first) (begun c)
-  begun-sound =
-      let s = steady-from (view (c .drum) (c .marks)) (c .deck) (h .first) (c .state) (c .budget) (h .state-fits) in
-      record {
-        cells =
-            cells-begun (view (c .drum) (c .marks)) (length-view (c .drum) (c .marks) (lent .drum-long ∙ sym (lent .marks-long)) ∙ lent .drum-long)
-            (lent .words-fit) (s .2);
-        state = s .1;
-      }
-
-  pub left-sound : Sound (c .deck) (h .first) (course c .machine)
-  left-sound = run-sound (inputs c) (h .first) (good-tail (c .deck) (h .first) (h .order) (h .problem) (h .deck-good)) (c .budget) (begun c) 0 begun-sound
-
   -- what drum and marks show is what the cells are
   pub left-view : view (overlay (c .drum) (course c .machine .cells)) (marksOf (course c .machine .cells)) ≡ course c .machine .cells
-  left-view = view-again (c .drum) (course c .machine .cells) (lent .drum-long ∙ sym (left-sound .cells .long))
+  left-view = view-again (c .drum) (course c .machine .cells) (lent c h .drum-long ∙ sym (left-sound c h .cells .long))
 
   following-entered : (out : List ℕ) (budget : ℕ) (switches : Switches) → budget ≤ 999999 → Entered (following c (ranAs c (course c)) out budget switches)
   unfolding ranAs drumFits
@@ -95,16 +61,16 @@ module _ (c : RunCall) (h : Entered c) where
         drum-fits =
             rw (
               left-view,
-              eq-eqb (length (overlay (c .drum) v)) 1000 (length-overlay (c .drum) v ∙ lent .drum-long),
-              eq-eqb (length (marksOf v)) 1000 (length-marks v ∙ left-sound .cells .long),
+              eq-eqb (length (overlay (c .drum) v)) 1000 (length-overlay (c .drum) v ∙ lent c h .drum-long),
+              eq-eqb (length (marksOf v)) 1000 (length-marks v ∙ left-sound c h .cells .long),
               marks-of-fit v,
             )
-            (words-fit v (left-sound .cells .words));
+            (words-fit v (left-sound c h .cells .words));
         first = h .first;
         order = h .order;
         problem = h .problem;
         deck-good = h .deck-good;
-        state-fits = rw left-view (steady-fits v (c .deck) (h .first) (course c .machine .state) budget l (left-sound .state) (left-sound .cells .owned));
+        state-fits = rw left-view (steady-fits v (c .deck) (h .first) (course c .machine .state) budget l (left-sound c h .state) (left-sound c h .cells .owned));
       }
 
   pub again-entered : (out : List ℕ) (budget : ℕ) (switches : Switches) → budget ≤ 999999 → Entered (following c (ran c) out budget switches)

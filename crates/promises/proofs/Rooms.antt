@@ -12,7 +12,7 @@ use Rattle.rules.proofs.Tails.{good-tail}
 use Rattle.rules.proofs.RoomRuns.{NotFull, run-fits, full-took}
 use Rattle.promises.specs.Again.{again}
 use Rattle.promises.specs.Rooms.{isFull, Came, cameTo, within, roomAfterRoom, OneLargeRoom, mostSent, LargeEnough, more, NeverFull}
-use Rattle.promises.proofs.Entry.{Entered, course, ran-course, begun-sound}
+use Rattle.rules.proofs.Entered.{Entered, course, ran-course, begun-sound}
 use Rattle.promises.proofs.Again.{ran-outcome}
 use Rattle.promises.proofs.Barred.{not-full, is-not-full, Barred, either-way, barred-not-full, of-call}
 use Rattle.promises.proofs.Beside.{Is, last-room, count-is-course, course-full, rooms-are}

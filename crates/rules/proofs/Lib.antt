@@ -27,3 +27,5 @@ pub mod Refusals
 pub mod Punching
 pub mod Full
 pub mod RoomRuns
+pub mod ShownWords
+pub mod Entered
