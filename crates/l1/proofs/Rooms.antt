@@ -81,12 +81,12 @@ ran-written c =
 -- ---- room after room
 
 module _ (c : RunCall) (n : ℕ) where
-  gone-end : (k : ℕ) → mayRefill (ran c .ending) (ran c .count) ≡ false → goneOn k c n ≡ endedAs (ran c) n
+  pub gone-end : (k : ℕ) → mayRefill (ran c .ending) (ran c .count) ≡ false → goneOn k c n ≡ endedAs (ran c) n
   unfolding goneOn
   gone-end zero e = refl
   gone-end (suc k) e = rw (e, goneOn)
 
-  gone-more : (k : ℕ) → mayRefill (ran c .ending) (ran c .count) ≡ true → goneOn (suc k) c n ≡ goneOn k (refilled c (ran c)) (n + ran c .count)
+  pub gone-more : (k : ℕ) → mayRefill (ran c .ending) (ran c .count) ≡ true → goneOn (suc k) c n ≡ goneOn k (refilled c (ran c)) (n + ran c .count)
   unfolding goneOn
   gone-more k e = rw (e, goneOn)
 
