@@ -12,8 +12,9 @@ use Rattle.rules.proofs.Tests.{false-true}
 use Rattle.machine.specs.Lent.{RunRight, callOf}
 use Rattle.machine.specs.declared.Ran.{Ran}
 use Rattle.says.specs.Told.{mayClose}
-use Rattle.says.proofs.Runs.{of-run, ran-count, count-within}
-use Rattle.says.proofs.Fields.{outcome-small, budget-small, run-ended, stop-closes}
+use Rattle.rules.proofs.RoomRuns.{count-within}
+use Rattle.rules.proofs.Entered.{of-run, ran-count, budget-small, left-sound, shown-word}
+use Rattle.says.proofs.Fields.{outcome-small, stop-closes}
 use Rattle.l1.specs.Going.{Whole, mayRefill, endedAs, refilled, goneOn, WentOn}
 use Rattle.l1.specs.declared.sessions.Gone.{Gone}
 
@@ -36,12 +37,12 @@ module _ (c : RunCall) (n : ℕ) where
   unfolding goneOn
   gone-none = refl
 
-  gone-end : (k : ℕ) → mayRefill (ran c .ending) (ran c .count) ≡ false → goneOn k c n ≡ endedAs (ran c) n
+  pub gone-end : (k : ℕ) → mayRefill (ran c .ending) (ran c .count) ≡ false → goneOn k c n ≡ endedAs (ran c) n
   unfolding goneOn
   gone-end zero e = refl
   gone-end (suc k) e = rw (e, goneOn)
 
-  gone-more : (k : ℕ) → mayRefill (ran c .ending) (ran c .count) ≡ true → goneOn (suc k) c n ≡ goneOn k (refilled c (ran c)) (n + ran c .count)
+  pub gone-more : (k : ℕ) → mayRefill (ran c .ending) (ran c .count) ≡ true → goneOn (suc k) c n ≡ goneOn k (refilled c (ran c)) (n + ran c .count)
   unfolding goneOn
   gone-more k e = rw (e, goneOn)
 
@@ -91,12 +92,11 @@ unfolding ranAs
 ended-closes c n h =
     of-run (λ (r : RunResult). mayClose (r .ending) (r .state) (n + r .count) ≡ true) c (λ b. refl)
     (λ f.
-    let e = run-ended c f in
     let x = runFrom (inputs c) (c .budget) (begun c) 0 in
     stop-closes (outcomeNumber (x .outcome)) (x .machine .state .location) (n + x .count) (outcomeShown (x .outcome))
-    (outcome-small (x .outcome)) (e .sound .located)
-    (omega (arith, small n (c .budget) (budget-small c f) h, count-within (inputs c) (c .budget) (begun c) 0))
-    (e .shown))
+    (outcome-small (x .outcome)) (left-sound c f .state .location)
+    (omega (arith, small n (c .budget) (budget-small c f) h, count-within (inputs c) (c .budget) (begun c) 0 .1))
+    (shown-word c f))
 
 refill-budget : (c : RunCall) → mayRefill (ran c .ending) (ran c .count) ≡ true → c .budget ≤ 999999
 unfolding ranAs
