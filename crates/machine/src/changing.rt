@@ -11,12 +11,12 @@ use rules::Changing;
 use rules::Outcome;
 
 // The word w with one of its addresses changed.
-fn changed_word(k: Changing, x: Address, w: u64, c: u16) -> u64
+fn changed_word(k: Changing, x: Address, w: u64, c: u32) -> u64
     requires { ⌜ (w ≤ 19999999999) × (c < 1000) ⌝ }
     ensures { λ r. ⌜ (r ≡ changedWord k x w c) × (r ≤ 19999999999) ⌝ }
 {
     let old = words::address_in(x, w);
-    let new = words::new_address(k, old as u16, c);
+    let new = words::new_address(k, old as u32, c);
     let worth = words::worth_of(x);
     let less = old * worth;
     let more = new * worth;
@@ -38,7 +38,7 @@ pub fn change(
         (now (drum .exit)) (now (marks .exit)) (now (row .exit)) r (λ m. done (changed m k x b c)) ⌝ }
 {
     let w = drum::word(drum, marks, b);
-    let y = changed_word(k, x, w, c as u16);
+    let y = changed_word(k, x, w, c as u32);
     drum::keep(drum, marks, b, y);
     go_on(row);
     Outcome::GoesOn

@@ -19,7 +19,7 @@ fn link(drum: &mut [u64], marks: &mut [u8], row: &mut [u64; 10], b: usize, c: us
         (now (drum .exit)) (now (marks .exit)) (now (row .exit)) Outcome.GoesOn (λ m. done (linked m b c)) ⌝ }
 {
     let w = drum::word(drum, marks, c);
-    let x = words::linked_word(w, b as u16);
+    let x = words::linked_word(w, b as u32);
     drum::keep(drum, marks, c, x);
     go_to(row, c);
 }

@@ -6,7 +6,7 @@ ghost use Rattle.rules.specs.declared.Address.the-variants.{OfC};
 use rules::Changing;
 
 // The address that x becomes with an order's c. Where c is above x and 1000 together, the rules' difference is 0.
-pub fn new_address(k: Changing, x: u16, c: u16) -> u64
+pub fn new_address(k: Changing, x: u32, c: u32) -> u64
     ensures { λ r. ⌜ r ≡ newAddress k x c ⌝ }
 {
     match k {
@@ -23,7 +23,7 @@ pub fn new_address(k: Changing, x: u16, c: u16) -> u64
 }
 
 // TR SUBR: a word with plus, and b for its C-address.
-pub fn linked_word(w: u64, b: u16) -> u64
+pub fn linked_word(w: u64, b: u32) -> u64
     ensures { λ r. ⌜ r ≡ withAddress OfC (digitsIn w) b ⌝ }
 {
     w % 10_000_000_000 / 1000 * 1000 + b as u64
