@@ -1,11 +1,7 @@
 -- Each public function has one answer: two that its contract allows for the same arguments are equal.
 -- `Post` is the contract of a function, as it stands at the function. Assumes nothing.
-use Prim.Native.Nat.{ℕ}
-use mathlib.Core.Path.{_≡_, sym, _∙_}
-use mathlib.Core.List.{List}
-use contract.Lifetimes.{Lfts}
-use denote.Triple.Clauses.{AtExit}
-use borrow.Fn.Kinds.{PK, RK, Out, Dens, resT, endedOf}
+use mathlib.Core.Path.{sym, _∙_}
+use Rattle.rules.proofs.Agreed.{OneResult}
 use Rattle.calls.proofs.words.command_of.Kinds as command-of-kinds
 use Rattle.calls.proofs.words.command_of.Reads as command-of
 use Rattle.calls.proofs.words.is_known.Kinds as is-known-kinds
@@ -29,44 +25,35 @@ use Rattle.calls.proofs.options.is_traced.Reads as is-traced
 use Rattle.calls.proofs.options.switches_of.Kinds as switches-of-kinds
 use Rattle.calls.proofs.options.switches_of.Reads as switches-of
 
--- of two calls with the same arguments that meet a contract, what holds of both results and of all that is left; n slices are lent
-abbrev pub Agrees : (n : ℕ) (ps : List (PK n)) (r : RK n) → Out n ps r
-    → ((κs : Lfts n) → resT r κs .Denot → resT r κs .Denot → AtExit (endedOf n ps r) κs → AtExit (endedOf n ps r) κs → Type 0)
-    → Type 0
-Agrees n ps r Post Same = (κs : Lfts n) (a : Dens κs ps) (x y : resT r κs .Denot) (s t : AtExit (endedOf n ps r) κs)
-    → Post κs a x s
-    → Post κs a y t
-    → Same κs x y s t
-
-pub one-command : Agrees 1 command-of-kinds.ps command-of-kinds.r command-of.Post (λ κs x y s t. x ≡ y)
+pub one-command : OneResult 1 command-of-kinds.ps command-of-kinds.r command-of.Post
 one-command κs a x y s t p q = p ∙ sym q
 
-pub one-known : Agrees 0 is-known-kinds.ps is-known-kinds.r is-known.Post (λ κs x y s t. x ≡ y)
+pub one-known : OneResult 0 is-known-kinds.ps is-known-kinds.r is-known.Post
 one-known κs a x y s t p q = p ∙ sym q
 
-pub one-asked : Agrees 1 asked-by-kinds.ps asked-by-kinds.r asked-by.Post (λ κs x y s t. x ≡ y)
+pub one-asked : OneResult 1 asked-by-kinds.ps asked-by-kinds.r asked-by.Post
 one-asked κs a x y s t p q = p ∙ sym q
 
-pub one-behind : Agrees 0 behind-names-kinds.ps behind-names-kinds.r behind-names.Post (λ κs x y s t. x ≡ y)
+pub one-behind : OneResult 0 behind-names-kinds.ps behind-names-kinds.r behind-names.Post
 one-behind κs a x y s t p q = p ∙ sym q
 
-pub one-missing : Agrees 0 is-missing-kinds.ps is-missing-kinds.r is-missing.Post (λ κs x y s t. x ≡ y)
+pub one-missing : OneResult 0 is-missing-kinds.ps is-missing-kinds.r is-missing.Post
 one-missing κs a x y s t p q = p ∙ sym q
 
-pub one-start : Agrees 0 start-of-kinds.ps start-of-kinds.r start-of.Post (λ κs x y s t. x ≡ y)
+pub one-start : OneResult 0 start-of-kinds.ps start-of-kinds.r start-of.Post
 one-start κs a x y s t p q = p ∙ sym q
 
-pub one-trouble : Agrees 0 trouble-of-kinds.ps trouble-of-kinds.r trouble-of.Post (λ κs x y s t. x ≡ y)
+pub one-trouble : OneResult 0 trouble-of-kinds.ps trouble-of-kinds.r trouble-of.Post
 one-trouble κs a x y s t p q = p ∙ sym q
 
-pub one-fine : Agrees 0 is-fine-kinds.ps is-fine-kinds.r is-fine.Post (λ κs x y s t. x ≡ y)
+pub one-fine : OneResult 0 is-fine-kinds.ps is-fine-kinds.r is-fine.Post
 one-fine κs a x y s t p q = p ∙ sym q
 
-pub one-next : Agrees 0 with-next-kinds.ps with-next-kinds.r with-next.Post (λ κs x y s t. x ≡ y)
+pub one-next : OneResult 0 with-next-kinds.ps with-next-kinds.r with-next.Post
 one-next κs a x y s t p q = p ∙ sym q
 
-pub one-traced : Agrees 0 is-traced-kinds.ps is-traced-kinds.r is-traced.Post (λ κs x y s t. x ≡ y)
+pub one-traced : OneResult 0 is-traced-kinds.ps is-traced-kinds.r is-traced.Post
 one-traced κs a x y s t p q = p ∙ sym q
 
-pub one-switches : Agrees 0 switches-of-kinds.ps switches-of-kinds.r switches-of.Post (λ κs x y s t. x ≡ y)
+pub one-switches : OneResult 0 switches-of-kinds.ps switches-of-kinds.r switches-of.Post
 one-switches κs a x y s t p q = p ∙ sym q

@@ -1,12 +1,8 @@
 -- Each public function has one answer: two that its contract allows for the same arguments are equal, and so are the outputs they leave.
 -- `Post` is the contract of a function, as it stands at the function. Assumes nothing.
-use Prim.Native.Nat.{ℕ}
 use mathlib.Core.Path.{_≡_, sym, _∙_}
-use mathlib.Core.List.{List}
-use contract.Lifetimes.{Lfts}
 use denote.Ref.{now}
-use denote.Triple.Clauses.{AtExit}
-use borrow.Fn.Kinds.{PK, RK, Out, Dens, resT, endedOf}
+use Rattle.rules.proofs.Agreed.{Agrees}
 use Rattle.list.proofs.cells.write_cell.Kinds as write-cell-kinds
 use Rattle.list.proofs.cells.write_cell.Reads as write-cell
 use Rattle.list.proofs.listing.write_lines.Kinds as write-lines-kinds
@@ -15,15 +11,6 @@ use Rattle.list.proofs.marked.write_cells.Kinds as write-cells-kinds
 use Rattle.list.proofs.marked.write_cells.Reads as write-cells
 use Rattle.list.proofs.places.write_bad.Kinds as write-bad-kinds
 use Rattle.list.proofs.places.write_bad.Reads as write-bad
-
--- of two calls with the same arguments that meet a contract, what holds of both results and of all that is left
-abbrev pub Agrees : (k : ℕ) (ps : List (PK k)) (r : RK k) → Out k ps r
-    → ((κs : Lfts k) → resT r κs .Denot → resT r κs .Denot → AtExit (endedOf k ps r) κs → AtExit (endedOf k ps r) κs → Type 0)
-    → Type 0
-Agrees k ps r Post Same = (κs : Lfts k) (a : Dens κs ps) (x y : resT r κs .Denot) (s t : AtExit (endedOf k ps r) κs)
-    → Post κs a x s
-    → Post κs a y t
-    → Same κs x y s t
 
 pub one-cell : Agrees 1 write-cell-kinds.ps write-cell-kinds.r write-cell.Post (λ κs x y s t. (x ≡ y) × (now (s .0) ≡ now (t .0)))
 one-cell κs a x y s t p q = (p .answer ∙ sym (q .answer), p .bytes ∙ sym (q .bytes))

@@ -12,21 +12,12 @@ returns-2 : tie.Need-returns-2
 returns-2 c =
     past-marks _ _ _ (c .if2 .taken)
 
-shared-slice-read-if3 : tie.Need-shared-slice-read-if3
-shared-slice-read-if3 c = search needs
-
 returns-3 : tie.Need-returns-3
 returns-3 c =
     let start : tie.Start = search in
     let one : tie.Else1 = search in
     let two : tie.Else2 = search in
     unmarked (start .args .drum .now) (start .args .marks .now) (start .args .a) (one .if1 .left) (two .if2 .left) (c .if3 .taken)
-
-mul-t4 : tie.Need-mul-t4
-mul-t4 c = search needs
-
-shared-slice-read-t9 : tie.Need-shared-slice-read-t9
-shared-slice-read-t9 c = search needs
 
 returns-4 : tie.Need-returns-4
 returns-4 c =
@@ -42,8 +33,8 @@ cell-spec =
     (tie.spec
     returns
     returns-2
-    shared-slice-read-if3
+    (λ c. search needs)
     returns-3
-    mul-t4
-    shared-slice-read-t9
+    (λ c. search needs)
+    (λ c. search needs)
     returns-4)

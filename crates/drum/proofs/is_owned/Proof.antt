@@ -5,14 +5,8 @@ use borrow.Author.Needs.{needs}
 use Rattle.drum.proofs.is_owned.Statement.{statement}
 use Rattle.drum.proofs.is_owned.Tie as tie
 
-cell-requires : tie.Need-cell-requires
-cell-requires c κs = search needs
-
 enum-told : tie.Need-enum-told
 enum-told c = search needs
-
-enum-told-2 : tie.Need-enum-told-2
-enum-told-2 c = search needs
 
 returns : tie.Need-returns
 returns c =
@@ -25,4 +19,4 @@ returns-2 c =
     ap isOwned (sym (c .enum-told2 .given .1) ∙ cell .cell .ensures)
 
 pub is-owned-spec : {M : Type 1} → statement M
-is-owned-spec = tie.close (tie.spec cell-requires enum-told enum-told-2 returns returns-2)
+is-owned-spec = tie.close (tie.spec (λ c κs. search needs) enum-told (λ c. search needs) returns returns-2)

@@ -15,21 +15,6 @@ returns-2 c =
     let one : tie.Else1 = search in
     not-stored _ _ _ _ (simp (lt-ltb _ _ (one .if1 .left), le-ltb _ _ (c .if2 .taken)))
 
-mul-drum : tie.Need-mul-drum
-mul-drum c = search needs
-
-slice-write-drum : tie.Need-slice-write-drum
-slice-write-drum c = search needs
-
-slice-write-marks : tie.Need-slice-write-marks
-slice-write-marks c = search needs
-
-same-length : tie.Need-same-length
-same-length c = search needs
-
-same-length-2 : tie.Need-same-length-2
-same-length-2 c = search needs
-
 returns-3 : tie.Need-returns-3
 returns-3 c =
     let one : tie.Else1 = search in
@@ -42,9 +27,9 @@ keep-spec =
     (tie.spec
     returns
     returns-2
-    mul-drum
-    slice-write-drum
-    slice-write-marks
-    same-length
-    same-length-2
+    (λ c. search needs)
+    (λ c. search needs)
+    (λ c. search needs)
+    (λ c. search needs)
+    (λ c. search needs)
     returns-3)

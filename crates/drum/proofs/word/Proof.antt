@@ -5,12 +5,6 @@ use borrow.Author.Needs.{needs}
 use Rattle.drum.proofs.word.Statement.{statement}
 use Rattle.drum.proofs.word.Tie as tie
 
-cell-requires : tie.Need-cell-requires
-cell-requires c κs = search needs
-
-enum-known-w : tie.Need-enum-known-w
-enum-known-w c = search needs
-
 enum-told : tie.Need-enum-told
 enum-told c = search needs
 
@@ -26,4 +20,4 @@ returns-2 c =
     ap shown (sym (word .w .given .1) ∙ cell .cell .ensures)
 
 pub word-spec : {M : Type 1} → statement M
-word-spec = tie.close (tie.spec cell-requires enum-known-w enum-told returns returns-2)
+word-spec = tie.close (tie.spec (λ c κs. search needs) (λ c. search needs) enum-told returns returns-2)

@@ -5,14 +5,8 @@ use Rattle.panel.specs.Told.{wordTold}
 use Rattle.panel.proofs.l1_abs.Statement.{statement}
 use Rattle.panel.proofs.l1_abs.Tie as tie
 
-abs-requires : tie.Need-abs-requires
-abs-requires c κs = search needs
-
-word-told-requires : tie.Need-word-told-requires
-word-told-requires c κs = search needs
-
 returns : tie.Need-returns
 returns c = c .word-told .ensures ∙ ap wordTold (c .before .abs .ensures)
 
 pub l1-abs-spec : {M : Type 1} → statement M
-l1-abs-spec = tie.close (tie.spec abs-requires word-told-requires returns)
+l1-abs-spec = tie.close (tie.spec (λ c κs. search needs) (λ c κs. search needs) returns)

@@ -5,14 +5,8 @@ use Rattle.panel.specs.Told.{wordTold}
 use Rattle.panel.proofs.l1_add.Statement.{statement}
 use Rattle.panel.proofs.l1_add.Tie as tie
 
-add-requires : tie.Need-add-requires
-add-requires c κs = search needs
-
-word-told-requires : tie.Need-word-told-requires
-word-told-requires c κs = search needs
-
 returns : tie.Need-returns
 returns c = c .word-told .ensures ∙ ap wordTold (c .before .add .ensures)
 
 pub l1-add-spec : {M : Type 1} → statement M
-l1-add-spec = tie.close (tie.spec add-requires word-told-requires returns)
+l1-add-spec = tie.close (tie.spec (λ c κs. search needs) (λ c κs. search needs) returns)

@@ -5,14 +5,8 @@ use Rattle.panel.specs.Told.{placeTold}
 use Rattle.panel.proofs.l1_deck.Statement.{statement}
 use Rattle.panel.proofs.l1_deck.Tie as tie
 
-check-deck-requires : tie.Need-check-deck-requires
-check-deck-requires c κs = search needs
-
-place-told-requires : tie.Need-place-told-requires
-place-told-requires c κs = search needs
-
 returns : tie.Need-returns
 returns c = c .place-told .ensures ∙ ap placeTold (c .before .check-deck .ensures)
 
 pub l1-deck-spec : {M : Type 1} → statement M
-l1-deck-spec = tie.close (tie.spec check-deck-requires place-told-requires returns)
+l1-deck-spec = tie.close (tie.spec (λ c κs. search needs) (λ c κs. search needs) returns)

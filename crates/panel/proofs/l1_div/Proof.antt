@@ -5,14 +5,8 @@ use Rattle.panel.specs.Told.{wordTold}
 use Rattle.panel.proofs.l1_div.Statement.{statement}
 use Rattle.panel.proofs.l1_div.Tie as tie
 
-div-requires : tie.Need-div-requires
-div-requires c κs = search needs
-
-word-told-requires : tie.Need-word-told-requires
-word-told-requires c κs = search needs
-
 returns : tie.Need-returns
 returns c = c .word-told .ensures ∙ ap wordTold (c .before .div .ensures)
 
 pub l1-div-spec : {M : Type 1} → statement M
-l1-div-spec = tie.close (tie.spec div-requires word-told-requires returns)
+l1-div-spec = tie.close (tie.spec (λ c κs. search needs) (λ c κs. search needs) returns)

@@ -5,14 +5,8 @@ use Rattle.panel.specs.Told.{wordTold}
 use Rattle.panel.proofs.l1_mpy.Statement.{statement}
 use Rattle.panel.proofs.l1_mpy.Tie as tie
 
-mpy-requires : tie.Need-mpy-requires
-mpy-requires c κs = search needs
-
-word-told-requires : tie.Need-word-told-requires
-word-told-requires c κs = search needs
-
 returns : tie.Need-returns
 returns c = c .word-told .ensures ∙ ap wordTold (c .before .mpy .ensures)
 
 pub l1-mpy-spec : {M : Type 1} → statement M
-l1-mpy-spec = tie.close (tie.spec mpy-requires word-told-requires returns)
+l1-mpy-spec = tie.close (tie.spec (λ c κs. search needs) (λ c κs. search needs) returns)

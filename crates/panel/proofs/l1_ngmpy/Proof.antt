@@ -5,14 +5,8 @@ use Rattle.panel.specs.Told.{wordTold}
 use Rattle.panel.proofs.l1_ngmpy.Statement.{statement}
 use Rattle.panel.proofs.l1_ngmpy.Tie as tie
 
-ngmpy-requires : tie.Need-ngmpy-requires
-ngmpy-requires c κs = search needs
-
-word-told-requires : tie.Need-word-told-requires
-word-told-requires c κs = search needs
-
 returns : tie.Need-returns
 returns c = c .word-told .ensures ∙ ap wordTold (c .before .ngmpy .ensures)
 
 pub l1-ngmpy-spec : {M : Type 1} → statement M
-l1-ngmpy-spec = tie.close (tie.spec ngmpy-requires word-told-requires returns)
+l1-ngmpy-spec = tie.close (tie.spec (λ c κs. search needs) (λ c κs. search needs) returns)

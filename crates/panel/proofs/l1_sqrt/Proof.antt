@@ -5,14 +5,8 @@ use Rattle.panel.specs.Told.{wordTold}
 use Rattle.panel.proofs.l1_sqrt.Statement.{statement}
 use Rattle.panel.proofs.l1_sqrt.Tie as tie
 
-sqrt-requires : tie.Need-sqrt-requires
-sqrt-requires c κs = search needs
-
-word-told-requires : tie.Need-word-told-requires
-word-told-requires c κs = search needs
-
 returns : tie.Need-returns
 returns c = c .word-told .ensures ∙ ap wordTold (c .before .sqrt .ensures)
 
 pub l1-sqrt-spec : {M : Type 1} → statement M
-l1-sqrt-spec = tie.close (tie.spec sqrt-requires word-told-requires returns)
+l1-sqrt-spec = tie.close (tie.spec (λ c κs. search needs) (λ c κs. search needs) returns)

@@ -5,14 +5,8 @@ use Rattle.panel.specs.Told.{wordTold}
 use Rattle.panel.proofs.l1_sub.Statement.{statement}
 use Rattle.panel.proofs.l1_sub.Tie as tie
 
-sub-requires : tie.Need-sub-requires
-sub-requires c κs = search needs
-
-word-told-requires : tie.Need-word-told-requires
-word-told-requires c κs = search needs
-
 returns : tie.Need-returns
 returns c = c .word-told .ensures ∙ ap wordTold (c .before .sub .ensures)
 
 pub l1-sub-spec : {M : Type 1} → statement M
-l1-sub-spec = tie.close (tie.spec sub-requires word-told-requires returns)
+l1-sub-spec = tie.close (tie.spec (λ c κs. search needs) (λ c κs. search needs) returns)

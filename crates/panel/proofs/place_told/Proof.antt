@@ -7,15 +7,6 @@ use Rattle.panel.proofs.place_told.Tie as tie
 enum-told : tie.Need-enum-told
 enum-told c = search needs
 
-enum-known-x : tie.Need-enum-known-x
-enum-known-x c = search needs
-
-deck-number-requires : tie.Need-deck-number-requires
-deck-number-requires c κs = search needs
-
-deck-place-requires : tie.Need-deck-place-requires
-deck-place-requires c κs = search needs
-
 returns : tie.Need-returns
 returns c = rw (c .enum-told .given .1) refl
 
@@ -28,4 +19,4 @@ returns-2 c =
 pub place-told-spec : {M : Type 1} → statement M
 place-told-spec =
     tie.close
-    (tie.spec enum-told enum-known-x deck-number-requires deck-place-requires returns returns-2)
+    (tie.spec enum-told (λ c. search needs) (λ c κs. search needs) (λ c κs. search needs) returns returns-2)

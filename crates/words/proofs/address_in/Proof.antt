@@ -9,12 +9,6 @@ use Rattle.words.proofs.address_in.Tie as tie
 enum-told : tie.Need-enum-told
 enum-told c = search needs
 
-enum-told-2 : tie.Need-enum-told-2
-enum-told-2 c = search needs
-
-enum-told-3 : tie.Need-enum-told-3
-enum-told-3 c = search needs
-
 returns : tie.Need-returns
 returns c =
     rw (c .enum-told .given .1) (omega arith)
@@ -29,4 +23,4 @@ returns-3 c =
 
 pub address-in-spec : {M : Type 1} → statement M
 address-in-spec =
-    tie.close (tie.spec enum-told enum-told-2 enum-told-3 returns returns-2 returns-3)
+    tie.close (tie.spec enum-told (λ c. search needs) (λ c. search needs) returns returns-2 returns-3)

@@ -6,51 +6,6 @@ use Rattle.calls.proofs.options.form_of.Tie as tie
 enum-told : tie.Need-enum-told
 enum-told c = search needs
 
-taking-requires : tie.Need-taking-requires
-taking-requires c κs = search needs
-
-enum-told-2 : tie.Need-enum-told-2
-enum-told-2 c = search needs
-
-taking-requires-2 : tie.Need-taking-requires-2
-taking-requires-2 c κs = search needs
-
-enum-told-3 : tie.Need-enum-told-3
-enum-told-3 c = search needs
-
-taking-requires-3 : tie.Need-taking-requires-3
-taking-requires-3 c κs = search needs
-
-enum-told-4 : tie.Need-enum-told-4
-enum-told-4 c = search needs
-
-taking-requires-4 : tie.Need-taking-requires-4
-taking-requires-4 c κs = search needs
-
-enum-told-5 : tie.Need-enum-told-5
-enum-told-5 c = search needs
-
-taking-requires-5 : tie.Need-taking-requires-5
-taking-requires-5 c κs = search needs
-
-enum-told-6 : tie.Need-enum-told-6
-enum-told-6 c = search needs
-
-taking-requires-6 : tie.Need-taking-requires-6
-taking-requires-6 c κs = search needs
-
-enum-told-7 : tie.Need-enum-told-7
-enum-told-7 c = search needs
-
-taking-requires-7 : tie.Need-taking-requires-7
-taking-requires-7 c κs = search needs
-
-enum-told-8 : tie.Need-enum-told-8
-enum-told-8 c = search needs
-
-taking-requires-8 : tie.Need-taking-requires-8
-taking-requires-8 c κs = search needs
-
 returns : tie.Need-returns
 returns c = rw (c .before .enum-told .given .1) (c .taking .ensures)
 
@@ -80,21 +35,21 @@ form-of-spec =
     tie.close
     (tie.spec
     enum-told
-    taking-requires
-    enum-told-2
-    taking-requires-2
-    enum-told-3
-    taking-requires-3
-    enum-told-4
-    taking-requires-4
-    enum-told-5
-    taking-requires-5
-    enum-told-6
-    taking-requires-6
-    enum-told-7
-    taking-requires-7
-    enum-told-8
-    taking-requires-8
+    (λ c κs. search needs)
+    (λ c. search needs)
+    (λ c κs. search needs)
+    (λ c. search needs)
+    (λ c κs. search needs)
+    (λ c. search needs)
+    (λ c κs. search needs)
+    (λ c. search needs)
+    (λ c κs. search needs)
+    (λ c. search needs)
+    (λ c κs. search needs)
+    (λ c. search needs)
+    (λ c κs. search needs)
+    (λ c. search needs)
+    (λ c κs. search needs)
     returns
     returns-2
     returns-3

@@ -8,23 +8,11 @@ use Rattle.rules.specs.Bytes.{bytes}
 use Rattle.calls.proofs.words.asked_by.Statement.{statement}
 use Rattle.calls.proofs.words.asked_by.Tie as tie
 
-slice-aggregate-is-same : tie.Need-slice-aggregate-is-same
-slice-aggregate-is-same c = search needs
-
-is-same-requires : tie.Need-is-same-requires
-is-same-requires c κs = search needs
-
 returns : tie.Need-returns
 unfolding askedBy bytes
 returns c =
     let is1 : tie.After-is-same = search in
     rw (sym (is1 .is-same .ensures) ∙ c .if1 .taken)
-
-slice-aggregate-is-same-2 : tie.Need-slice-aggregate-is-same-2
-slice-aggregate-is-same-2 c = search needs
-
-is-same-requires-2 : tie.Need-is-same-requires-2
-is-same-requires-2 c κs = search needs
 
 returns-2 : tie.Need-returns-2
 unfolding askedBy bytes
@@ -44,21 +32,6 @@ returns-3 c =
     let no2 : tie.Else2 = search in
     asked-short (start .args .word .now) (sym (is1 .is-same .ensures) ∙ no1 .if1 .left) (sym (is2 .is-same2 .ensures) ∙ no2 .if2 .left) (c .if3 .taken)
 
-sub-is-same : tie.Need-sub-is-same
-sub-is-same c = search needs
-
-part-is-same-start : tie.Need-part-is-same-start
-part-is-same-start c = search needs
-
-part-is-same-end : tie.Need-part-is-same-end
-part-is-same-end c = search needs
-
-slice-aggregate-is-same-3 : tie.Need-slice-aggregate-is-same-3
-slice-aggregate-is-same-3 c = search needs
-
-is-same-requires-3 : tie.Need-is-same-requires-3
-is-same-requires-3 c κs = search needs
-
 returns-4 : tie.Need-returns-4
 unfolding bytes
 returns-4 c =
@@ -69,18 +42,6 @@ returns-4 c =
     let no2 : tie.Else2 = search in
     let is3 : tie.After-is-same3 = search in
     asked-not (start .args .word .now) (sym (is1 .is-same .ensures) ∙ no1 .if1 .left) (sym (is2 .is-same2 .ensures) ∙ no2 .if2 .left) (sym (is3 .is-same3 .ensures) ∙ not-true _ (c .if4 .taken))
-
-sub-number-of : tie.Need-sub-number-of
-sub-number-of c = search needs
-
-part-number-of-start : tie.Need-part-number-of-start
-part-number-of-start c = search needs
-
-part-number-of-end : tie.Need-part-number-of-end
-part-number-of-end c = search needs
-
-number-of-requires : tie.Need-number-of-requires
-number-of-requires c κs = search needs
 
 returns-5 : tie.Need-returns-5
 unfolding bytes
@@ -99,21 +60,21 @@ pub asked-by-spec : {M : Type 1} → statement M
 asked-by-spec =
     tie.close
     (tie.spec
-    slice-aggregate-is-same
-    is-same-requires
+    (λ c. search needs)
+    (λ c κs. search needs)
     returns
-    slice-aggregate-is-same-2
-    is-same-requires-2
+    (λ c. search needs)
+    (λ c κs. search needs)
     returns-2
     returns-3
-    sub-is-same
-    part-is-same-start
-    part-is-same-end
-    slice-aggregate-is-same-3
-    is-same-requires-3
+    (λ c. search needs)
+    (λ c. search needs)
+    (λ c. search needs)
+    (λ c. search needs)
+    (λ c κs. search needs)
     returns-4
-    sub-number-of
-    part-number-of-start
-    part-number-of-end
-    number-of-requires
+    (λ c. search needs)
+    (λ c. search needs)
+    (λ c. search needs)
+    (λ c κs. search needs)
     returns-5)

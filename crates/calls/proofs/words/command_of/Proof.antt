@@ -6,23 +6,11 @@ use Rattle.rules.specs.Bytes.{bytes}
 use Rattle.calls.proofs.words.command_of.Statement.{statement}
 use Rattle.calls.proofs.words.command_of.Tie as tie
 
-slice-aggregate-is-same : tie.Need-slice-aggregate-is-same
-slice-aggregate-is-same c = search needs
-
-is-same-requires : tie.Need-is-same-requires
-is-same-requires c κs = search needs
-
 returns : tie.Need-returns
 unfolding commandOf bytes
 returns c =
     let is1 : tie.After-is-same = search in
     rw (sym (is1 .is-same .ensures) ∙ c .if1 .taken)
-
-slice-aggregate-is-same-2 : tie.Need-slice-aggregate-is-same-2
-slice-aggregate-is-same-2 c = search needs
-
-is-same-requires-2 : tie.Need-is-same-requires-2
-is-same-requires-2 c κs = search needs
 
 returns-2 : tie.Need-returns-2
 unfolding commandOf bytes
@@ -31,12 +19,6 @@ returns-2 c =
     let no1 : tie.Else1 = search in
     let is1 : tie.After-is-same = search in
     rw (sym (is1 .is-same .ensures) ∙ no1 .if1 .left, sym (is2 .is-same2 .ensures) ∙ c .if2 .taken)
-
-slice-aggregate-is-same-3 : tie.Need-slice-aggregate-is-same-3
-slice-aggregate-is-same-3 c = search needs
-
-is-same-requires-3 : tie.Need-is-same-requires-3
-is-same-requires-3 c κs = search needs
 
 returns-3 : tie.Need-returns-3
 unfolding commandOf bytes
@@ -47,12 +29,6 @@ returns-3 c =
     let no1 : tie.Else1 = search in
     let is1 : tie.After-is-same = search in
     rw (sym (is1 .is-same .ensures) ∙ no1 .if1 .left, sym (is2 .is-same2 .ensures) ∙ no2 .if2 .left, sym (is3 .is-same3 .ensures) ∙ c .if3 .taken)
-
-slice-aggregate-is-same-4 : tie.Need-slice-aggregate-is-same-4
-slice-aggregate-is-same-4 c = search needs
-
-is-same-requires-4 : tie.Need-is-same-requires-4
-is-same-requires-4 c κs = search needs
 
 returns-4 : tie.Need-returns-4
 unfolding commandOf bytes
@@ -65,12 +41,6 @@ returns-4 c =
     let no1 : tie.Else1 = search in
     let is1 : tie.After-is-same = search in
     rw (sym (is1 .is-same .ensures) ∙ no1 .if1 .left, sym (is2 .is-same2 .ensures) ∙ no2 .if2 .left, sym (is3 .is-same3 .ensures) ∙ no3 .if3 .left, sym (is4 .is-same4 .ensures) ∙ c .if4 .taken)
-
-slice-aggregate-is-same-5 : tie.Need-slice-aggregate-is-same-5
-slice-aggregate-is-same-5 c = search needs
-
-is-same-requires-5 : tie.Need-is-same-requires-5
-is-same-requires-5 c κs = search needs
 
 returns-5 : tie.Need-returns-5
 unfolding commandOf bytes
@@ -85,12 +55,6 @@ returns-5 c =
     let no1 : tie.Else1 = search in
     let is1 : tie.After-is-same = search in
     rw (sym (is1 .is-same .ensures) ∙ no1 .if1 .left, sym (is2 .is-same2 .ensures) ∙ no2 .if2 .left, sym (is3 .is-same3 .ensures) ∙ no3 .if3 .left, sym (is4 .is-same4 .ensures) ∙ no4 .if4 .left, sym (is5 .is-same5 .ensures) ∙ c .if5 .taken)
-
-slice-aggregate-is-same-6 : tie.Need-slice-aggregate-is-same-6
-slice-aggregate-is-same-6 c = search needs
-
-is-same-requires-6 : tie.Need-is-same-requires-6
-is-same-requires-6 c κs = search needs
 
 returns-6 : tie.Need-returns-6
 unfolding commandOf bytes
@@ -107,12 +71,6 @@ returns-6 c =
     let no1 : tie.Else1 = search in
     let is1 : tie.After-is-same = search in
     rw (sym (is1 .is-same .ensures) ∙ no1 .if1 .left, sym (is2 .is-same2 .ensures) ∙ no2 .if2 .left, sym (is3 .is-same3 .ensures) ∙ no3 .if3 .left, sym (is4 .is-same4 .ensures) ∙ no4 .if4 .left, sym (is5 .is-same5 .ensures) ∙ no5 .if5 .left, sym (is6 .is-same6 .ensures) ∙ c .if6 .taken)
-
-slice-aggregate-is-same-7 : tie.Need-slice-aggregate-is-same-7
-slice-aggregate-is-same-7 c = search needs
-
-is-same-requires-7 : tie.Need-is-same-requires-7
-is-same-requires-7 c κs = search needs
 
 returns-7 : tie.Need-returns-7
 unfolding commandOf bytes
@@ -154,25 +112,25 @@ pub command-of-spec : {M : Type 1} → statement M
 command-of-spec =
     tie.close
     (tie.spec
-    slice-aggregate-is-same
-    is-same-requires
+    (λ c. search needs)
+    (λ c κs. search needs)
     returns
-    slice-aggregate-is-same-2
-    is-same-requires-2
+    (λ c. search needs)
+    (λ c κs. search needs)
     returns-2
-    slice-aggregate-is-same-3
-    is-same-requires-3
+    (λ c. search needs)
+    (λ c κs. search needs)
     returns-3
-    slice-aggregate-is-same-4
-    is-same-requires-4
+    (λ c. search needs)
+    (λ c κs. search needs)
     returns-4
-    slice-aggregate-is-same-5
-    is-same-requires-5
+    (λ c. search needs)
+    (λ c κs. search needs)
     returns-5
-    slice-aggregate-is-same-6
-    is-same-requires-6
+    (λ c. search needs)
+    (λ c κs. search needs)
     returns-6
-    slice-aggregate-is-same-7
-    is-same-requires-7
+    (λ c. search needs)
+    (λ c κs. search needs)
     returns-7
     returns-8)

@@ -25,12 +25,6 @@ loop-holds c =
     let start : tie.Start Inv-loop μ-loop = search in
     left-begins (start .args .text .now)
 
-shared-slice-read-b : tie.Need-shared-slice-read-b Inv-loop μ-loop
-shared-slice-read-b c = search needs
-
-is-digit-requires : tie.Need-is-digit-requires Inv-loop μ-loop
-is-digit-requires c κs = search needs
-
 returns-2 : tie.Need-returns-2 Inv-loop μ-loop
 returns-2 c =
     let start : tie.Start Inv-loop μ-loop = search in
@@ -43,15 +37,6 @@ sub-with-digit : tie.Need-sub-with-digit Inv-loop μ-loop
 sub-with-digit c =
     let test : tie.After-is-digit Inv-loop μ-loop = search in
     digit-low _ (sym (test .is-digit .ensures) ∙ not-false _ (c .if2 .left))
-
-with-digit-requires : tie.Need-with-digit-requires Inv-loop μ-loop
-with-digit-requires c κs = search needs
-
-add-i : tie.Need-add-i Inv-loop μ-loop
-add-i c = search needs
-
-loop-less : tie.Need-loop-less Inv-loop μ-loop
-loop-less c = search needs
 
 loop-again : tie.Need-loop-again Inv-loop μ-loop
 loop-again c =
@@ -77,12 +62,12 @@ number-of-spec =
     μ-loop
     returns
     loop-holds
-    shared-slice-read-b
-    is-digit-requires
+    (λ c. search needs)
+    (λ c κs. search needs)
     returns-2
     sub-with-digit
-    with-digit-requires
-    add-i
-    loop-less
+    (λ c κs. search needs)
+    (λ c. search needs)
+    (λ c. search needs)
     loop-again
     returns-3)

@@ -6,9 +6,6 @@ use borrow.Author.Needs.{needs}
 use Rattle.codes.proofs.keys.code_of.Statement.{statement}
 use Rattle.codes.proofs.keys.code_of.Tie as tie
 
-key-of-requires : tie.Need-key-of-requires
-key-of-requires c κs = search needs
-
 returns : tie.Need-returns
 returns c =
     let start : tie.Start = search in
@@ -20,13 +17,10 @@ returns-2 c =
     let start : tie.Start = search in
     code-move (start .args .w) (omega arith)
 
-mul-result : tie.Need-mul-result
-mul-result c = search needs
-
 returns-3 : tie.Need-returns-3
 returns-3 c =
     let start : tie.Start = search in
     omega (arith, code-long (start .args .w) (omega arith) (omega arith))
 
 pub code-of-spec : {M : Type 1} → statement M
-code-of-spec = tie.close (tie.spec key-of-requires returns returns-2 mul-result returns-3)
+code-of-spec = tie.close (tie.spec (λ c κs. search needs) returns returns-2 (λ c. search needs) returns-3)

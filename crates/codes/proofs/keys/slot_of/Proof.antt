@@ -13,12 +13,9 @@ returns-2 : tie.Need-returns-2
 unfolding slotOf
 returns-2 c = simp (le-ltb _ _ (c .before .if1 .left), lt-ltb _ _ (c .if2 .taken))
 
-add-result : tie.Need-add-result
-add-result c = search needs
-
 returns-3 : tie.Need-returns-3
 unfolding slotOf
 returns-3 c = simp (le-ltb _ _ (c .before .if1 .left), le-ltb _ _ (c .if2 .left))
 
 pub slot-of-spec : {M : Type 1} → statement M
-slot-of-spec = tie.close (tie.spec returns returns-2 add-result returns-3)
+slot-of-spec = tie.close (tie.spec returns returns-2 (λ c. search needs) returns-3)

@@ -10,12 +10,6 @@ use borrow.Author.Needs.{needs}
 use Rattle.codes.proofs.rows.name_of.Statement.{statement}
 use Rattle.codes.proofs.rows.name_of.Tie as tie
 
-row-of-requires : tie.Need-row-of-requires
-row-of-requires c κs = search needs
-
-row-at-requires : tie.Need-row-at-requires
-row-at-requires c κs = search needs
-
 returns : tie.Need-returns
 returns c =
     let start : tie.Start = search in
@@ -36,4 +30,4 @@ returns-2 c =
     dash (row .row-of .result) (omega arith) ∙ ap (λ (n : ℕ). nameAt n codes) (row .row-of .ensures .0) ∙ named (start .args .code) codes
 
 pub name-of-spec : {M : Type 1} → statement M
-name-of-spec = tie.close (tie.spec row-of-requires row-at-requires returns returns-2)
+name-of-spec = tie.close (tie.spec (λ c κs. search needs) (λ c κs. search needs) returns returns-2)

@@ -14,12 +14,6 @@ use borrow.Author.Needs.{needs}
 use Rattle.codes.proofs.rows.row_at.Statement.{statement}
 use Rattle.codes.proofs.rows.row_at.Tie as tie
 
-mul-result : tie.Need-mul-result
-mul-result c = search needs
-
-array-copy-out-result : tie.Need-array-copy-out-result
-array-copy-out-result c = search needs
-
 -- a row of the rules as the table has it
 abbrev shown : Codes.Row → Row
 shown r = record { 0 = r .code; 1 = r .operation; 2 = r .class; 3 = r .name }
@@ -40,4 +34,4 @@ returns c =
     entry codes (start .args .i) _ (start .pre)
 
 pub row-at-spec : {M : Type 1} → statement M
-row-at-spec = tie.close (tie.spec mul-result array-copy-out-result returns)
+row-at-spec = tie.close (tie.spec (λ c. search needs) (λ c. search needs) returns)

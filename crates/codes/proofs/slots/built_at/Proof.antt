@@ -4,15 +4,6 @@ use borrow.Author.Tests.{lt-ltb, le-ltb}
 use Rattle.codes.proofs.slots.built_at.Statement.{statement}
 use Rattle.codes.proofs.slots.built_at.Tie as tie
 
-mul-built-of : tie.Need-mul-built-of
-mul-built-of c = search needs
-
-element-copy-out-built-of : tie.Need-element-copy-out-built-of
-element-copy-out-built-of c = search needs
-
-built-of-requires : tie.Need-built-of-requires
-built-of-requires c κs = search needs
-
 returns : tie.Need-returns
 returns c = let test : tie.Then1 = search in simp (lt-ltb _ _ (test .if1 .taken)) (c .built-of .ensures)
 
@@ -21,4 +12,4 @@ returns-2 c = simp (le-ltb _ _ (c .if1 .left))
 
 pub built-at-spec : {M : Type 1} → statement M
 built-at-spec =
-    tie.close (tie.spec mul-built-of element-copy-out-built-of built-of-requires returns returns-2)
+    tie.close (tie.spec (λ c. search needs) (λ c. search needs) (λ c κs. search needs) returns returns-2)

@@ -28,24 +28,12 @@ loop-holds c =
     let start : tie.Start Inv-loop μ-loop = search in
     (omega arith, omega arith, sym (owned-none _ (start .args .b)))
 
-add-is-owned : tie.Need-add-is-owned Inv-loop μ-loop
-add-is-owned c =
-    search needs
-
-is-owned-requires : tie.Need-is-owned-requires Inv-loop μ-loop
-is-owned-requires c κs =
-    search needs
-
 returns-2 : tie.Need-returns-2 Inv-loop μ-loop
 returns-2 c =
     let start : tie.Start Inv-loop μ-loop = search in
     let turn : tie.In-loop Inv-loop μ-loop = search in
     let owned : tie.After-is-owned Inv-loop μ-loop = search in
     owned-fails _ (start .args .b) _ _ (turn .loop-test .taken) (sym (owned .is-owned .ensures) ∙ not-true _ (c .if2 .taken))
-
-add-i : tie.Need-add-i Inv-loop μ-loop
-add-i c =
-    search needs
 
 loop-less : tie.Need-loop-less Inv-loop μ-loop
 loop-less c =
@@ -74,10 +62,10 @@ all-owned-spec =
     μ-loop
     returns
     loop-holds
-    add-is-owned
-    is-owned-requires
+    (λ c. search needs)
+    (λ c κs. search needs)
     returns-2
-    add-i
+    (λ c. search needs)
     loop-less
     loop-again
     returns-3)

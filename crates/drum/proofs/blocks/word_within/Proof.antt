@@ -19,20 +19,11 @@ returns-2 c =
     let one : tie.Else1 = search in
     simp (lt-ltb _ _ (one .if1 .left)) (nothing-past (start .args .drum .now) (start .args .marks .now) (start .args .b + start .args .i) (omega arith))
 
-sub-if3 : tie.Need-sub-if3
-sub-if3 c = search needs
-
 returns-3 : tie.Need-returns-3
 returns-3 c =
     let start : tie.Start = search in
     let one : tie.Else1 = search in
     simp (lt-ltb _ _ (one .if1 .left)) (nothing-past (start .args .drum .now) (start .args .marks .now) (start .args .b + start .args .i) (omega arith))
-
-add-word : tie.Need-add-word
-add-word c = search needs
-
-word-requires : tie.Need-word-requires
-word-requires c κs = search needs
 
 returns-4 : tie.Need-returns-4
 returns-4 c =
@@ -41,4 +32,4 @@ returns-4 c =
 
 pub word-within-spec : {M : Type 1} → statement M
 word-within-spec =
-    tie.close (tie.spec returns returns-2 sub-if3 returns-3 add-word word-requires returns-4)
+    tie.close (tie.spec returns returns-2 (λ c. search needs) returns-3 (λ c. search needs) (λ c κs. search needs) returns-4)

@@ -40,28 +40,10 @@ Inv-loop room₀ from to n i₀ room i = (i ≤ n) × (length room ≡ length ro
 abbrev μ-loop : tie.MeasureT-loop
 μ-loop room₀ from to n i₀ room i = n - i
 
-sub-n : tie.Need-sub-n Inv-loop μ-loop
-sub-n c = search needs
-
 loop-holds : tie.Need-loop-holds Inv-loop μ-loop
 loop-holds c =
     let start : tie.Start Inv-loop μ-loop = search in
     (omega arith, refl, paste-zero (start .args .room .now) 0 (drop (start .args .from) (start .args .room .now)))
-
-add-room : tie.Need-add-room Inv-loop μ-loop
-add-room c = search needs
-
-slice-read-room : tie.Need-slice-read-room Inv-loop μ-loop
-slice-read-room c = search needs
-
-slice-write-room : tie.Need-slice-write-room Inv-loop μ-loop
-slice-write-room c = search needs
-
-add-i : tie.Need-add-i Inv-loop μ-loop
-add-i c = search needs
-
-loop-less : tie.Need-loop-less Inv-loop μ-loop
-loop-less c = search needs
 
 loop-again : tie.Need-loop-again Inv-loop μ-loop
 loop-again c =
@@ -73,9 +55,6 @@ loop-again c =
       simp length-set (at .loop .inv .1),
       moved old (at .loop .room) (start .args .from) (at .loop .i) l (omega (arith, start .pre)) (at .loop .inv .2),
     )
-
-same-length : tie.Need-same-length Inv-loop μ-loop
-same-length c = search needs
 
 returns : tie.Need-returns Inv-loop μ-loop
 returns c =
@@ -91,13 +70,13 @@ move-down-spec =
     (tie.spec
     Inv-loop
     μ-loop
-    sub-n
+    (λ c. search needs)
     loop-holds
-    add-room
-    slice-read-room
-    slice-write-room
-    add-i
-    loop-less
+    (λ c. search needs)
+    (λ c. search needs)
+    (λ c. search needs)
+    (λ c. search needs)
+    (λ c. search needs)
     loop-again
-    same-length
+    (λ c. search needs)
     returns)

@@ -34,9 +34,6 @@ loop-holds c =
     let start : tie.Start Inv-loop μ-loop = search in
     (start .args .budget, omega arith, omega arith, refl, refl, refl, refl)
 
-run-requires : tie.Need-run-requires Inv-loop μ-loop
-run-requires c κs = search needs
-
 add-count : tie.Need-add-count Inv-loop μ-loop
 add-count c =
     let start : tie.Start Inv-loop μ-loop = search in
@@ -51,29 +48,8 @@ send-cards-requires c κs =
     let e : length (run .run .last .1 .1 .0) ≡ length (at .loop .out) = search needs in
     (refl, omega (arith, written-fits (call run) (run .run .ensures) e, e))
 
-same-length : tie.Need-same-length Inv-loop μ-loop
-same-length c = search needs
-
-same-length-2 : tie.Need-same-length-2 Inv-loop μ-loop
-same-length-2 c = search needs
-
-same-length-3 : tie.Need-same-length-3 Inv-loop μ-loop
-same-length-3 c = search needs
-
 returns : tie.Need-returns Inv-loop μ-loop
 returns c = λ e. absurd (true≢false (sym e))
-
-may-refill-requires : tie.Need-may-refill-requires Inv-loop μ-loop
-may-refill-requires c κs = search needs
-
-same-length-4 : tie.Need-same-length-4 Inv-loop μ-loop
-same-length-4 c = search needs
-
-same-length-5 : tie.Need-same-length-5 Inv-loop μ-loop
-same-length-5 c = search needs
-
-same-length-6 : tie.Need-same-length-6 Inv-loop μ-loop
-same-length-6 c = search needs
 
 returns-2 : tie.Need-returns-2 Inv-loop μ-loop
 returns-2 c =
@@ -115,17 +91,17 @@ go-on-spec =
     Inv-loop
     μ-loop
     loop-holds
-    run-requires
+    (λ c κs. search needs)
     add-count
     send-cards-requires
-    same-length
-    same-length-2
-    same-length-3
+    (λ c. search needs)
+    (λ c. search needs)
+    (λ c. search needs)
     returns
-    may-refill-requires
-    same-length-4
-    same-length-5
-    same-length-6
+    (λ c κs. search needs)
+    (λ c. search needs)
+    (λ c. search needs)
+    (λ c. search needs)
     returns-2
     sub-left
     loop-less

@@ -9,15 +9,9 @@ use Rattle.l1.proofs.sessions.may_refill.Tie as tie
 returns : tie.Need-returns
 returns c = rw (eq-eqb (c .before .args .count) 0 (c .if1 .taken))
 
-ending-number-requires : tie.Need-ending-number-requires
-ending-number-requires c κs = search needs
-
-refusal-number-requires : tie.Need-refusal-number-requires
-refusal-number-requires c κs = search needs
-
 returns-2 : tie.Need-returns-2
 returns-2 c = rw (ne-eqb (c .before .before .before .args .count) 0 (c .before .before .if1 .left)) (ap₂ eqb (c .before .ending-number .ensures) (c .refusal-number .ensures))
 
 pub may-refill-spec : {M : Type 1} → statement M
 may-refill-spec =
-    tie.close (tie.spec returns ending-number-requires refusal-number-requires returns-2)
+    tie.close (tie.spec returns (λ c κs. search needs) (λ c κs. search needs) returns-2)

@@ -12,36 +12,12 @@ use borrow.Author.Needs.{needs}
 use Rattle.list.proofs.cards.write_data.Statement.{statement}
 use Rattle.list.proofs.cards.write_data.Tie as tie
 
-mul-size : tie.Need-mul-size
-mul-size c = search needs
-
-add-size : tie.Need-add-size
-add-size c = search needs
-
 returns : tie.Need-returns
 returns c =
     let start : tie.Start = search in
     let a = start .args in
     no-line (dataLines (a .rest .now) (a .location) (a .n)) (a .out .now)
     (omega (arith, c .if1 .taken, length-data (a .rest .now) (a .location) (a .n) (start .pre .0)))
-
-slice-aggregate-put-head : tie.Need-slice-aggregate-put-head
-slice-aggregate-put-head c = search needs
-
-mul-put-head : tie.Need-mul-put-head
-mul-put-head c = search needs
-
-add-put-head : tie.Need-add-put-head
-add-put-head c = search needs
-
-put-head-requires : tie.Need-put-head-requires
-put-head-requires c κs = search needs
-
-put-cells-requires : tie.Need-put-cells-requires
-put-cells-requires c κs = search needs
-
-same-length : tie.Need-same-length
-same-length c = search needs
 
 returns-2 : tie.Need-returns-2
 unfolding dataLines bytes
@@ -63,13 +39,13 @@ pub write-data-spec : {M : Type 1} → statement M
 write-data-spec =
     tie.close
     (tie.spec
-    mul-size
-    add-size
+    (λ c. search needs)
+    (λ c. search needs)
     returns
-    slice-aggregate-put-head
-    mul-put-head
-    add-put-head
-    put-head-requires
-    put-cells-requires
-    same-length
+    (λ c. search needs)
+    (λ c. search needs)
+    (λ c. search needs)
+    (λ c κs. search needs)
+    (λ c κs. search needs)
+    (λ c. search needs)
     returns-2)

@@ -14,12 +14,6 @@ returns c =
     let a = start .args in
     no-line (firstLine (a .rest .now)) (a .out .now) (omega (arith, c .if1 .taken, length-first (a .rest .now) (start .pre)))
 
-put-first-requires : tie.Need-put-first-requires
-put-first-requires c κs = search needs
-
-same-length : tie.Need-same-length
-same-length c = search needs
-
 returns-2 : tie.Need-returns-2
 returns-2 c =
     let put : tie.After-put-first = search in
@@ -29,4 +23,4 @@ returns-2 c =
     all (firstLine (a .rest .now)) (a .out .now) _ 32 (length-first (a .rest .now) (start .pre)) (room .if1 .left) (put .put-first .ensures)
 
 pub write-first-spec : {M : Type 1} → statement M
-write-first-spec = tie.close (tie.spec returns put-first-requires same-length returns-2)
+write-first-spec = tie.close (tie.spec returns (λ c κs. search needs) (λ c. search needs) returns-2)

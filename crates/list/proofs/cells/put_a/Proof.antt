@@ -15,15 +15,6 @@ use borrow.Author.Needs.{needs}
 use Rattle.list.proofs.cells.put_a.Statement.{statement}
 use Rattle.list.proofs.cells.put_a.Tie as tie
 
-slice-aggregate-put-run : tie.Need-slice-aggregate-put-run
-slice-aggregate-put-run c = search needs
-
-put-run-requires : tie.Need-put-run-requires
-put-run-requires c κs = search needs
-
-same-length : tie.Need-same-length
-same-length c = search needs
-
 returns : tie.Need-returns
 unfolding bytes
 returns c =
@@ -34,21 +25,6 @@ returns c =
     let e : aText (a .w) ≡ bytes "   " = simp (eq-eqb (firstDigit (a .w)) 0 (none .if1 .taken)) in
     put-begin {e = a .a + 5} 5 (blanks .put-run .ensures) refl refl (omega (arith, start .pre)) .same
     ∙ ap (λ (l : List ℕ). splice (a .a) (bytes "  " ++ l) (a .out .now)) (sym e)
-
-slice-aggregate-put-run-2 : tie.Need-slice-aggregate-put-run-2
-slice-aggregate-put-run-2 c = search needs
-
-put-run-requires-2 : tie.Need-put-run-requires-2
-put-run-requires-2 c κs = search needs
-
-add-put-field : tie.Need-add-put-field
-add-put-field c = search needs
-
-put-field-requires : tie.Need-put-field-requires
-put-field-requires c κs = search needs
-
-same-length-2 : tie.Need-same-length-2
-same-length-2 c = search needs
 
 returns-2 : tie.Need-returns-2
 unfolding bytes
@@ -67,13 +43,13 @@ pub put-a-spec : {M : Type 1} → statement M
 put-a-spec =
     tie.close
     (tie.spec
-    slice-aggregate-put-run
-    put-run-requires
-    same-length
+    (λ c. search needs)
+    (λ c κs. search needs)
+    (λ c. search needs)
     returns
-    slice-aggregate-put-run-2
-    put-run-requires-2
-    add-put-field
-    put-field-requires
-    same-length-2
+    (λ c. search needs)
+    (λ c κs. search needs)
+    (λ c. search needs)
+    (λ c κs. search needs)
+    (λ c. search needs)
     returns-2)

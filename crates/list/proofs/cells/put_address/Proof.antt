@@ -9,18 +9,6 @@ use borrow.Author.Needs.{needs}
 use Rattle.list.proofs.cells.put_address.Statement.{statement}
 use Rattle.list.proofs.cells.put_address.Tie as tie
 
-put-byte-requires : tie.Need-put-byte-requires
-put-byte-requires c κs = search needs
-
-add-put-field : tie.Need-add-put-field
-add-put-field c = search needs
-
-put-field-requires : tie.Need-put-field-requires
-put-field-requires c κs = search needs
-
-same-length : tie.Need-same-length
-same-length c = search needs
-
 returns : tie.Need-returns
 unfolding bytes
 returns c =
@@ -33,4 +21,4 @@ returns c =
 
 pub put-address-spec : {M : Type 1} → statement M
 put-address-spec =
-    tie.close (tie.spec put-byte-requires add-put-field put-field-requires same-length returns)
+    tie.close (tie.spec (λ c κs. search needs) (λ c. search needs) (λ c κs. search needs) (λ c. search needs) returns)

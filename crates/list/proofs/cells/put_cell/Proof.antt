@@ -12,30 +12,6 @@ use borrow.Author.Needs.{needs}
 use Rattle.list.proofs.cells.put_cell.Statement.{statement}
 use Rattle.list.proofs.cells.put_cell.Tie as tie
 
-slice-aggregate-put-run : tie.Need-slice-aggregate-put-run
-slice-aggregate-put-run c = search needs
-
-put-run-requires : tie.Need-put-run-requires
-put-run-requires c κs = search needs
-
-add-put-field : tie.Need-add-put-field
-add-put-field c = search needs
-
-put-field-requires : tie.Need-put-field-requires
-put-field-requires c κs = search needs
-
-add-put-order : tie.Need-add-put-order
-add-put-order c = search needs
-
-slice-aggregate-put-order : tie.Need-slice-aggregate-put-order
-slice-aggregate-put-order c = search needs
-
-put-order-requires : tie.Need-put-order-requires
-put-order-requires c κs = search needs
-
-same-length : tie.Need-same-length
-same-length c = search needs
-
 returns : tie.Need-returns
 unfolding orderLine cellLine digits bytes
 returns c =
@@ -55,12 +31,12 @@ pub put-cell-spec : {M : Type 1} → statement M
 put-cell-spec =
     tie.close
     (tie.spec
-    slice-aggregate-put-run
-    put-run-requires
-    add-put-field
-    put-field-requires
-    add-put-order
-    slice-aggregate-put-order
-    put-order-requires
-    same-length
+    (λ c. search needs)
+    (λ c κs. search needs)
+    (λ c. search needs)
+    (λ c κs. search needs)
+    (λ c. search needs)
+    (λ c. search needs)
+    (λ c κs. search needs)
+    (λ c. search needs)
     returns)

@@ -20,48 +20,6 @@ use borrow.Author.Needs.{needs}
 use Rattle.list.proofs.cells.put_order.Statement.{statement}
 use Rattle.list.proofs.cells.put_order.Tie as tie
 
-add-p : tie.Need-add-p
-add-p c = search needs
-
-put-run-requires : tie.Need-put-run-requires
-put-run-requires c κs = search needs
-
-put-word-requires : tie.Need-put-word-requires
-put-word-requires c κs = search needs
-
-add-put-name : tie.Need-add-put-name
-add-put-name c = search needs
-
-put-name-requires : tie.Need-put-name-requires
-put-name-requires c κs = search needs
-
-add-put-a : tie.Need-add-put-a
-add-put-a c = search needs
-
-put-a-requires : tie.Need-put-a-requires
-put-a-requires c κs = search needs
-
-add-put-address : tie.Need-add-put-address
-add-put-address c = search needs
-
-put-address-requires : tie.Need-put-address-requires
-put-address-requires c κs = search needs
-
-add-put-address-2 : tie.Need-add-put-address-2
-add-put-address-2 c = search needs
-
-put-address-requires-2 : tie.Need-put-address-requires-2
-put-address-requires-2 c κs = search needs
-
-add-put-byte : tie.Need-add-put-byte
-add-put-byte c = search needs
-
-put-byte-requires : tie.Need-put-byte-requires
-put-byte-requires c κs = search needs
-
-same-length : tie.Need-same-length
-same-length c = search needs
-
 returns : tie.Need-returns
 unfolding orderLine bytes
 returns c =
@@ -100,18 +58,18 @@ pub put-order-spec : {M : Type 1} → statement M
 put-order-spec =
     tie.close
     (tie.spec
-    add-p
-    put-run-requires
-    put-word-requires
-    add-put-name
-    put-name-requires
-    add-put-a
-    put-a-requires
-    add-put-address
-    put-address-requires
-    add-put-address-2
-    put-address-requires-2
-    add-put-byte
-    put-byte-requires
-    same-length
+    (λ c. search needs)
+    (λ c κs. search needs)
+    (λ c κs. search needs)
+    (λ c. search needs)
+    (λ c κs. search needs)
+    (λ c. search needs)
+    (λ c κs. search needs)
+    (λ c. search needs)
+    (λ c κs. search needs)
+    (λ c. search needs)
+    (λ c κs. search needs)
+    (λ c. search needs)
+    (λ c κs. search needs)
+    (λ c. search needs)
     returns)

@@ -52,12 +52,6 @@ returns-3 c =
     no-line (cellShown (a .address) (a .word)) (a .out .now)
     (omega (arith, c .if3 .taken, length-shown (a .address) (a .word) (there .if1 .left) (word .if2 .left)))
 
-put-cell-requires : tie.Need-put-cell-requires
-put-cell-requires c κs = search needs
-
-same-length : tie.Need-same-length
-same-length c = search needs
-
 returns-4 : tie.Need-returns-4
 returns-4 c =
     let put : tie.After-put-cell = search in
@@ -73,4 +67,4 @@ returns-4 c =
 
 pub write-cell-spec : {M : Type 1} → statement M
 write-cell-spec =
-    tie.close (tie.spec returns returns-2 returns-3 put-cell-requires same-length returns-4)
+    tie.close (tie.spec returns returns-2 returns-3 (λ c κs. search needs) (λ c. search needs) returns-4)

@@ -16,15 +16,9 @@ returns : tie.Need-returns
 unfolding isStop
 returns c = simp (lt-leb 24 _ (c .if1 .taken))
 
-shared-slice-read-if2 : tie.Need-shared-slice-read-if2
-shared-slice-read-if2 c = search needs
-
 returns-2 : tie.Need-returns-2
 unfolding isStop
 returns-2 c = let long : tie.Else1 = search in simp (le-leb 24 _ (long .if1 .left), ne-eqb _ 90 (c .if2 .taken))
-
-first-bad-requires : tie.Need-first-bad-requires
-first-bad-requires c κs = search needs
 
 returns-3 : tie.Need-returns-3
 unfolding isStop
@@ -36,12 +30,6 @@ returns-3 c =
     let d = start .args .rest .now in
     let numbers = ne-eqb (badFrom 0 d 1 12) 13 (λ e. c .if3 .taken (digits .first-bad .ensures ∙ e)) in
     simp (le-leb 24 (length d) (long .if1 .left), eq-eqb (getD d 0 0) 90 (kind .if2 .left), numbers)
-
-shared-slice-read-is-sign : tie.Need-shared-slice-read-is-sign
-shared-slice-read-is-sign c = search needs
-
-is-sign-requires : tie.Need-is-sign-requires
-is-sign-requires c κs = search needs
 
 returns-4 : tie.Need-returns-4
 unfolding isStop
@@ -56,18 +44,6 @@ returns-4 c =
     let numbers = eq-eqb (badFrom 0 d 1 12) 13 (sym (digits .first-bad .ensures) ∙ good .if3 .left) in
     let unsigned = sym (sign .is-sign .ensures) ∙ not-true _ (c .if4 .taken) in
     simp (le-leb 24 (length d) (long .if1 .left), eq-eqb (getD d 0 0) 90 (kind .if2 .left), numbers, unsigned)
-
-sub-word : tie.Need-sub-word
-sub-word c = search needs
-
-part-word-start : tie.Need-part-word-start
-part-word-start c = search needs
-
-part-word-end : tie.Need-part-word-end
-part-word-end c = search needs
-
-first-bad-requires-2 : tie.Need-first-bad-requires-2
-first-bad-requires-2 c κs = search needs
 
 returns-5 : tie.Need-returns-5
 unfolding isStop
@@ -90,15 +66,15 @@ is-stop-spec =
     tie.close
     (tie.spec
     returns
-    shared-slice-read-if2
+    (λ c. search needs)
     returns-2
-    first-bad-requires
+    (λ c κs. search needs)
     returns-3
-    shared-slice-read-is-sign
-    is-sign-requires
+    (λ c. search needs)
+    (λ c κs. search needs)
     returns-4
-    sub-word
-    part-word-start
-    part-word-end
-    first-bad-requires-2
+    (λ c. search needs)
+    (λ c. search needs)
+    (λ c. search needs)
+    (λ c κs. search needs)
     returns-5)

@@ -12,15 +12,9 @@ returns : tie.Need-returns
 unfolding isTrace
 returns c = simp (lt-leb 77 _ (c .if1 .taken))
 
-shared-slice-read-if2 : tie.Need-shared-slice-read-if2
-shared-slice-read-if2 c = search needs
-
 returns-2 : tie.Need-returns-2
 unfolding isTrace
 returns-2 c = let long : tie.Else1 = search in simp (le-leb 77 _ (long .if1 .left), ne-eqb _ 88 (c .if2 .taken))
-
-first-bad-requires : tie.Need-first-bad-requires
-first-bad-requires c κs = search needs
 
 returns-3 : tie.Need-returns-3
 unfolding isTrace
@@ -31,4 +25,4 @@ returns-3 c =
 
 pub is-trace-spec : {M : Type 1} → statement M
 is-trace-spec =
-    tie.close (tie.spec returns shared-slice-read-if2 returns-2 first-bad-requires returns-3)
+    tie.close (tie.spec returns (λ c. search needs) returns-2 (λ c κs. search needs) returns-3)

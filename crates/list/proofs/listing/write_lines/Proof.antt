@@ -6,12 +6,6 @@ use borrow.Author.Needs.{needs}
 use Rattle.list.proofs.listing.write_lines.Statement.{statement}
 use Rattle.list.proofs.listing.write_lines.Tie as tie
 
-read-card-requires : tie.Need-read-card-requires
-read-card-requires c κs = search needs
-
-enum-known-location : tie.Need-enum-known-location
-enum-known-location c = search needs
-
 write-data-requires : tie.Need-write-data-requires
 write-data-requires c κs =
     let known : tie.After-location = search in
@@ -27,18 +21,6 @@ write-first-requires c κs =
     let card : tie.After-read-card = search in
     first-fits _ (sym (card .read-card .ensures) ∙ first .enum-told .given .1)
 
-enum-told-2 : tie.Need-enum-told-2
-enum-told-2 c = search needs
-
-write-other-requires : tie.Need-write-other-requires
-write-other-requires c κs = search needs
-
-enum-told-3 : tie.Need-enum-told-3
-enum-told-3 c = search needs
-
-same-length : tie.Need-same-length
-same-length c = search needs
-
 returns : tie.Need-returns
 returns c =
     let put : tie.After-write-data = search in
@@ -47,9 +29,6 @@ returns c =
     as-card _ _ _ _ _ (sym (known .location .given .1) ∙ card .read-card .ensures)
     (record { shown = put .write-data .ensures; taken = refl })
 
-same-length-2 : tie.Need-same-length-2
-same-length-2 c = search needs
-
 returns-2 : tie.Need-returns-2
 returns-2 c =
     let put : tie.After-write-first = search in
@@ -57,9 +36,6 @@ returns-2 c =
     let card : tie.After-read-card = search in
     as-card _ _ _ _ _ (sym (first .enum-told .given .1) ∙ card .read-card .ensures)
     (record { shown = put .write-first .ensures; taken = refl })
-
-same-length-3 : tie.Need-same-length-3
-same-length-3 c = search needs
 
 returns-3 : tie.Need-returns-3
 returns-3 c =
@@ -77,18 +53,18 @@ pub write-lines-spec : {M : Type 1} → statement M
 write-lines-spec =
     tie.close
     (tie.spec
-    read-card-requires
-    enum-known-location
+    (λ c κs. search needs)
+    (λ c. search needs)
     write-data-requires
     enum-told
     write-first-requires
-    enum-told-2
-    write-other-requires
-    enum-told-3
-    same-length
+    (λ c. search needs)
+    (λ c κs. search needs)
+    (λ c. search needs)
+    (λ c. search needs)
     returns
-    same-length-2
+    (λ c. search needs)
     returns-2
-    same-length-3
+    (λ c. search needs)
     returns-3
     returns-4)

@@ -6,17 +6,11 @@ use borrow.Author.Needs.{needs}
 use Rattle.list.proofs.listing.write_other.Statement.{statement}
 use Rattle.list.proofs.listing.write_other.Tie as tie
 
-is-trace-requires : tie.Need-is-trace-requires
-is-trace-requires c κs = search needs
-
 write-trace-requires : tie.Need-write-trace-requires
 write-trace-requires c κs =
     let is : tie.Then1 = search in
     let trace : tie.After-is-trace = search in
     trace-long _ (sym (trace .is-trace .ensures) ∙ is .if1 .taken)
-
-same-length : tie.Need-same-length
-same-length c = search needs
 
 returns : tie.Need-returns
 returns c =
@@ -25,17 +19,11 @@ returns c =
     let trace : tie.After-is-trace = search in
     as-trace _ _ _ _ (sym (trace .is-trace .ensures) ∙ is .if1 .taken) (written .write-trace .ensures)
 
-is-stop-requires : tie.Need-is-stop-requires
-is-stop-requires c κs = search needs
-
 write-stop-requires : tie.Need-write-stop-requires
 write-stop-requires c κs =
     let is : tie.Then2 = search in
     let stop : tie.After-is-stop = search in
     stop-long _ (sym (stop .is-stop .ensures) ∙ is .if2 .taken)
-
-same-length-2 : tie.Need-same-length-2
-same-length-2 c = search needs
 
 returns-2 : tie.Need-returns-2
 returns-2 c =
@@ -57,12 +45,12 @@ pub write-other-spec : {M : Type 1} → statement M
 write-other-spec =
     tie.close
     (tie.spec
-    is-trace-requires
+    (λ c κs. search needs)
     write-trace-requires
-    same-length
+    (λ c. search needs)
     returns
-    is-stop-requires
+    (λ c κs. search needs)
     write-stop-requires
-    same-length-2
+    (λ c. search needs)
     returns-2
     returns-3)

@@ -7,18 +7,6 @@ use borrow.Author.Needs.{needs}
 use Rattle.list.proofs.parts.put.Statement.{statement}
 use Rattle.list.proofs.parts.put.Tie as tie
 
-put-run-requires : tie.Need-put-run-requires
-put-run-requires c κs = search needs
-
-add-copy : tie.Need-add-copy
-add-copy c = search needs
-
-copy-requires : tie.Need-copy-requires
-copy-requires c κs = search needs
-
-same-length : tie.Need-same-length
-same-length c = search needs
-
 returns : tie.Need-returns
 returns c =
     let behind : tie.After-copy = search in
@@ -30,4 +18,4 @@ returns c =
     (behind .copy .ensures) (length-field (a .from .now) (a .b) (a .n) (start .pre .1)) refl (start .pre .0) .same
 
 pub put-spec : {M : Type 1} → statement M
-put-spec = tie.close (tie.spec put-run-requires add-copy copy-requires same-length returns)
+put-spec = tie.close (tie.spec (λ c κs. search needs) (λ c. search needs) (λ c κs. search needs) (λ c. search needs) returns)

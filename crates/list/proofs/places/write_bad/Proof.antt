@@ -14,24 +14,12 @@ use borrow.Author.Needs.{needs}
 use Rattle.list.proofs.places.write_bad.Statement.{statement}
 use Rattle.list.proofs.places.write_bad.Tie as tie
 
-width-of-requires : tie.Need-width-of-requires
-width-of-requires c κs = search needs
-
-add-size : tie.Need-add-size
-add-size c = search needs
-
 returns : tie.Need-returns
 returns c =
     let width : tie.After-width-of = search in
     let start : tie.Start = search in
     let a = start .args in
     no-line (badLine (a .place)) (a .out .now) (omega (arith, length-bad (a .place), width .width-of .ensures .0))
-
-put-place-requires : tie.Need-put-place-requires
-put-place-requires c κs = search needs
-
-same-length : tie.Need-same-length
-same-length c = search needs
 
 returns-2 : tie.Need-returns-2
 unfolding badLine
@@ -49,4 +37,4 @@ returns-2 c =
 pub write-bad-spec : {M : Type 1} → statement M
 write-bad-spec =
     tie.close
-    (tie.spec width-of-requires add-size returns put-place-requires same-length returns-2)
+    (tie.spec (λ c κs. search needs) (λ c. search needs) returns (λ c κs. search needs) (λ c. search needs) returns-2)

@@ -14,12 +14,6 @@ returns c =
     let a = start .args in
     no-line (stopLine (a .rest .now)) (a .out .now) (omega (arith, c .if1 .taken, length-stop (a .rest .now) (start .pre)))
 
-put-stop-requires : tie.Need-put-stop-requires
-put-stop-requires c κs = search needs
-
-same-length : tie.Need-same-length
-same-length c = search needs
-
 returns-2 : tie.Need-returns-2
 returns-2 c =
     let put : tie.After-put-stop = search in
@@ -29,4 +23,4 @@ returns-2 c =
     all (stopLine (a .rest .now)) (a .out .now) _ 54 (length-stop (a .rest .now) (start .pre)) (room .if1 .left) (put .put-stop .ensures)
 
 pub write-stop-spec : {M : Type 1} → statement M
-write-stop-spec = tie.close (tie.spec returns put-stop-requires same-length returns-2)
+write-stop-spec = tie.close (tie.spec returns (λ c κs. search needs) (λ c. search needs) returns-2)

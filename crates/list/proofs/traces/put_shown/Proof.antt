@@ -11,39 +11,6 @@ use borrow.Author.Needs.{needs}
 use Rattle.list.proofs.traces.put_shown.Statement.{statement}
 use Rattle.list.proofs.traces.put_shown.Tie as tie
 
-slice-aggregate-put : tie.Need-slice-aggregate-put
-slice-aggregate-put c = search needs
-
-put-requires : tie.Need-put-requires
-put-requires c κs = search needs
-
-slice-aggregate-put-2 : tie.Need-slice-aggregate-put-2
-slice-aggregate-put-2 c = search needs
-
-put-requires-2 : tie.Need-put-requires-2
-put-requires-2 c κs = search needs
-
-slice-aggregate-put-3 : tie.Need-slice-aggregate-put-3
-slice-aggregate-put-3 c = search needs
-
-put-requires-3 : tie.Need-put-requires-3
-put-requires-3 c κs = search needs
-
-slice-aggregate-put-4 : tie.Need-slice-aggregate-put-4
-slice-aggregate-put-4 c = search needs
-
-put-requires-4 : tie.Need-put-requires-4
-put-requires-4 c κs = search needs
-
-slice-aggregate-put-5 : tie.Need-slice-aggregate-put-5
-slice-aggregate-put-5 c = search needs
-
-put-requires-5 : tie.Need-put-requires-5
-put-requires-5 c κs = search needs
-
-slice-aggregate-put-6 : tie.Need-slice-aggregate-put-6
-slice-aggregate-put-6 c = search needs
-
 put-requires-6 : tie.Need-put-requires-6
 put-requires-6 c κs =
     let p₅ : tie.After-put5 = search in
@@ -53,9 +20,6 @@ put-requires-6 c κs =
     let p₁ : tie.After-put = search in
     let start : tie.Start = search in
     (omega (arith, start .pre .0, p₁ .put .kept .0, p₂ .put2 .kept .0, p₃ .put3 .kept .0, p₄ .put4 .kept .0, p₅ .put5 .kept .0), omega (arith, start .pre .1))
-
-put-byte-requires : tie.Need-put-byte-requires
-put-byte-requires c κs = search needs
 
 same-length : tie.Need-same-length
 same-length c =
@@ -101,18 +65,18 @@ pub put-shown-spec : {M : Type 1} → statement M
 put-shown-spec =
     tie.close
     (tie.spec
-    slice-aggregate-put
-    put-requires
-    slice-aggregate-put-2
-    put-requires-2
-    slice-aggregate-put-3
-    put-requires-3
-    slice-aggregate-put-4
-    put-requires-4
-    slice-aggregate-put-5
-    put-requires-5
-    slice-aggregate-put-6
+    (λ c. search needs)
+    (λ c κs. search needs)
+    (λ c. search needs)
+    (λ c κs. search needs)
+    (λ c. search needs)
+    (λ c κs. search needs)
+    (λ c. search needs)
+    (λ c κs. search needs)
+    (λ c. search needs)
+    (λ c κs. search needs)
+    (λ c. search needs)
     put-requires-6
-    put-byte-requires
+    (λ c κs. search needs)
     same-length
     returns)

@@ -12,36 +12,6 @@ use Rattle.list.proofs.Lengths.{length-head, length-order, length-shown
 use Rattle.list.proofs.traces.put_trace.Statement.{statement}
 use Rattle.list.proofs.traces.put_trace.Tie as tie
 
-word-of-requires : tie.Need-word-of-requires
-word-of-requires c κs = search needs
-
-word-of-requires-2 : tie.Need-word-of-requires-2
-word-of-requires-2 c κs = search needs
-
-slice-aggregate-put-head : tie.Need-slice-aggregate-put-head
-slice-aggregate-put-head c = search needs
-
-put-head-requires : tie.Need-put-head-requires
-put-head-requires c κs = search needs
-
-slice-aggregate-put-order : tie.Need-slice-aggregate-put-order
-slice-aggregate-put-order c = search needs
-
-put-order-requires : tie.Need-put-order-requires
-put-order-requires c κs = search needs
-
-slice-aggregate-put-order-2 : tie.Need-slice-aggregate-put-order-2
-slice-aggregate-put-order-2 c = search needs
-
-put-order-requires-2 : tie.Need-put-order-requires-2
-put-order-requires-2 c κs = search needs
-
-put-shown-requires : tie.Need-put-shown-requires
-put-shown-requires c κs = search needs
-
-same-length : tie.Need-same-length
-same-length c = search needs
-
 returns : tie.Need-returns
 unfolding traceLines bytes
 returns c =
@@ -74,14 +44,14 @@ pub put-trace-spec : {M : Type 1} → statement M
 put-trace-spec =
     tie.close
     (tie.spec
-    word-of-requires
-    word-of-requires-2
-    slice-aggregate-put-head
-    put-head-requires
-    slice-aggregate-put-order
-    put-order-requires
-    slice-aggregate-put-order-2
-    put-order-requires-2
-    put-shown-requires
-    same-length
+    (λ c κs. search needs)
+    (λ c κs. search needs)
+    (λ c. search needs)
+    (λ c κs. search needs)
+    (λ c. search needs)
+    (λ c κs. search needs)
+    (λ c. search needs)
+    (λ c κs. search needs)
+    (λ c κs. search needs)
+    (λ c. search needs)
     returns)

@@ -14,12 +14,6 @@ returns c =
     let a = start .args in
     no-line (traceLines (a .rest .now)) (a .out .now) (omega (arith, c .if1 .taken, length-trace (a .rest .now) (start .pre)))
 
-put-trace-requires : tie.Need-put-trace-requires
-put-trace-requires c κs = search needs
-
-same-length : tie.Need-same-length
-same-length c = search needs
-
 returns-2 : tie.Need-returns-2
 returns-2 c =
     let put : tie.After-put-trace = search in
@@ -29,4 +23,4 @@ returns-2 c =
     all (traceLines (a .rest .now)) (a .out .now) _ 232 (length-trace (a .rest .now) (start .pre)) (room .if1 .left) (put .put-trace .ensures)
 
 pub write-trace-spec : {M : Type 1} → statement M
-write-trace-spec = tie.close (tie.spec returns put-trace-requires same-length returns-2)
+write-trace-spec = tie.close (tie.spec returns (λ c κs. search needs) (λ c. search needs) returns-2)

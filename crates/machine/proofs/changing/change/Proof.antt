@@ -9,28 +9,10 @@ use borrow.Author.Needs.{needs}
 use Rattle.machine.proofs.changing.change.Statement.{statement}
 use Rattle.machine.proofs.changing.change.Tie as tie
 
-word-requires : tie.Need-word-requires
-word-requires c κs = search needs
-
-cast-changed-word : tie.Need-cast-changed-word
-cast-changed-word c = search needs
-
 changed-word-requires : tie.Need-changed-word-requires
 changed-word-requires c κs =
     let start : tie.Start = search in
     (rw (c .word .ensures) (start .pre .0 (start .args .b)), search needs)
-
-keep-requires : tie.Need-keep-requires
-keep-requires c κs = search needs
-
-go-on-requires : tie.Need-go-on-requires
-go-on-requires c κs = search needs
-
-same-length : tie.Need-same-length
-same-length c = search needs
-
-same-length-2 : tie.Need-same-length-2
-same-length-2 c = search needs
 
 returns : tie.Need-returns
 returns c =
@@ -48,11 +30,11 @@ pub change-spec : {M : Type 1} → statement M
 change-spec =
     tie.close
     (tie.spec
-    word-requires
-    cast-changed-word
+    (λ c κs. search needs)
+    (λ c. search needs)
     changed-word-requires
-    keep-requires
-    go-on-requires
-    same-length
-    same-length-2
+    (λ c κs. search needs)
+    (λ c κs. search needs)
+    (λ c. search needs)
+    (λ c. search needs)
     returns)

@@ -13,27 +13,6 @@ use Rattle.machine.proofs.going.link.Tie as tie
 linked-small : (w : ℕ) {b : ℕ} → b < 1000 → withAddress OfC (digitsIn w) b ≤ 19999999999
 linked-small w l = omega arith
 
-word-requires : tie.Need-word-requires
-word-requires c κs = search needs
-
-cast-linked-word : tie.Need-cast-linked-word
-cast-linked-word c = search needs
-
-linked-word-requires : tie.Need-linked-word-requires
-linked-word-requires c κs = search needs
-
-keep-requires : tie.Need-keep-requires
-keep-requires c κs = search needs
-
-go-to-requires : tie.Need-go-to-requires
-go-to-requires c κs = search needs
-
-same-length : tie.Need-same-length
-same-length c = search needs
-
-same-length-2 : tie.Need-same-length-2
-same-length-2 c = search needs
-
 returns : tie.Need-returns
 returns c =
     λ drum₀ out₀ out m h.
@@ -50,11 +29,11 @@ pub link-spec : {M : Type 1} → statement M
 link-spec =
     tie.close
     (tie.spec
-    word-requires
-    cast-linked-word
-    linked-word-requires
-    keep-requires
-    go-to-requires
-    same-length
-    same-length-2
+    (λ c κs. search needs)
+    (λ c. search needs)
+    (λ c κs. search needs)
+    (λ c κs. search needs)
+    (λ c κs. search needs)
+    (λ c. search needs)
+    (λ c. search needs)
     returns)

@@ -15,45 +15,6 @@ greatest-is c =
     let inner : tie.After-larger = search in
     c .larger2 .ensures ∙ ap₂ max (a .compared .ensures) (inner .larger .ensures ∙ ap₂ max (b .compared2 .ensures) (d .compared3 .ensures))
 
-element-copy-out-p : tie.Need-element-copy-out-p
-element-copy-out-p c = search needs
-
-element-copy-out-q : tie.Need-element-copy-out-q
-element-copy-out-q c = search needs
-
-element-copy-out-r : tie.Need-element-copy-out-r
-element-copy-out-r c = search needs
-
-compared-requires : tie.Need-compared-requires
-compared-requires c κs = search needs
-
-compared-requires-2 : tie.Need-compared-requires-2
-compared-requires-2 c κs = search needs
-
-compared-requires-3 : tie.Need-compared-requires-3
-compared-requires-3 c κs = search needs
-
-larger-requires : tie.Need-larger-requires
-larger-requires c κs = search needs
-
-larger-requires-2 : tie.Need-larger-requires-2
-larger-requires-2 c κs = search needs
-
-go-to-requires : tie.Need-go-to-requires
-go-to-requires c κs = search needs
-
-raised-by-requires : tie.Need-raised-by-requires
-raised-by-requires c κs = search needs
-
-raised-by-requires-2 : tie.Need-raised-by-requires-2
-raised-by-requires-2 c κs = search needs
-
-raised-by-requires-3 : tie.Need-raised-by-requires-3
-raised-by-requires-3 c κs = search needs
-
-put-counts-requires : tie.Need-put-counts-requires
-put-counts-requires c κs = search needs
-
 returns : tie.Need-returns
 returns c =
     λ drum marks drum₀ out₀ out m h.
@@ -67,12 +28,6 @@ returns c =
     let a = start .args in
     round-again h (a .x) (a .y) (a .z) (a .b) (a .c) (rw (← greatest-is greatest) (test .if1 .taken)) (start .pre .1)
     (c .put-counts .ensures ∙ (λ i. put ((gone .go-to .ensures) i) ((p .raised-by .ensures) i) ((q .raised-by2 .ensures) i) ((r .raised-by3 .ensures) i)))
-
-go-on-requires : tie.Need-go-on-requires
-go-on-requires c κs = search needs
-
-put-counts-requires-2 : tie.Need-put-counts-requires-2
-put-counts-requires-2 c κs = search needs
 
 returns-2 : tie.Need-returns-2
 returns-2 c =
@@ -89,20 +44,20 @@ pub go-round-spec : {M : Type 1} → statement M
 go-round-spec =
     tie.close
     (tie.spec
-    element-copy-out-p
-    element-copy-out-q
-    element-copy-out-r
-    compared-requires
-    compared-requires-2
-    compared-requires-3
-    larger-requires
-    larger-requires-2
-    go-to-requires
-    raised-by-requires
-    raised-by-requires-2
-    raised-by-requires-3
-    put-counts-requires
+    (λ c. search needs)
+    (λ c. search needs)
+    (λ c. search needs)
+    (λ c κs. search needs)
+    (λ c κs. search needs)
+    (λ c κs. search needs)
+    (λ c κs. search needs)
+    (λ c κs. search needs)
+    (λ c κs. search needs)
+    (λ c κs. search needs)
+    (λ c κs. search needs)
+    (λ c κs. search needs)
+    (λ c κs. search needs)
     returns
-    go-on-requires
-    put-counts-requires-2
+    (λ c κs. search needs)
+    (λ c κs. search needs)
     returns-2)

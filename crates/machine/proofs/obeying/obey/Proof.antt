@@ -38,18 +38,6 @@ at-parts c k =
     let p = c .parts-of .ensures in
     (λ j. placed k (view (start .args .drum .now) (start .args .marks .now)) (p .key-is j % 1000) (p .b-is j) (p .c-is j))
 
-parts-of-requires : tie.Need-parts-of-requires
-parts-of-requires c κs = search needs
-
-slot-of-requires : tie.Need-slot-of-requires
-slot-of-requires c κs = search needs
-
-built-at-requires : tie.Need-built-at-requires
-built-at-requires c κs = search needs
-
-enum-known-o : tie.Need-enum-known-o
-enum-known-o c = search needs
-
 enum-told : tie.Need-enum-told
 enum-told c = search needs
 
@@ -59,15 +47,6 @@ returns c =
     let built : tie.After-built-at = search in
     let start : tie.Start = search in
     obey-not-built h i (start .args .w) (for-mode h i (start .args .w) (sym (c .enum-told .given .1) ∙ found built))
-
-check-requires : tie.Need-check-requires
-check-requires c κs = search needs
-
-enum-known-found : tie.Need-enum-known-found
-enum-known-found c = search needs
-
-enum-told-2 : tie.Need-enum-told-2
-enum-told-2 c = search needs
 
 perform-requires : tie.Need-perform-requires
 perform-requires c κs =
@@ -87,12 +66,6 @@ perform-requires c κs =
       ),
     )
 
-same-length : tie.Need-same-length
-same-length c = search needs
-
-same-length-2 : tie.Need-same-length-2
-same-length-2 c = search needs
-
 returns-2 : tie.Need-returns-2
 returns-2 c =
     λ i l drum₀ out₀ m e h.
@@ -104,15 +77,6 @@ returns-2 c =
     let start : tie.Start = search in
     obey-refused h i (start .args .w) (code .o .given .0 .0) (code .o .given .0 .1 .0) (for-mode h i (start .args .w) (sym (code .o .given .1) ∙ found built)) (said .found .given .0 .0)
     (sym (said .found .given .1) ∙ check .check .ensures ∙ at-parts parts (code .o .given .0 .1 .0))
-
-same-length-3 : tie.Need-same-length-3
-same-length-3 c = search needs
-
-same-length-4 : tie.Need-same-length-4
-same-length-4 c = search needs
-
-same-length-5 : tie.Need-same-length-5
-same-length-5 c = search needs
 
 returns-3 : tie.Need-returns-3
 returns-3 c =
@@ -136,20 +100,20 @@ pub obey-spec : {M : Type 1} → statement M
 obey-spec =
     tie.close
     (tie.spec
-    parts-of-requires
-    slot-of-requires
-    built-at-requires
-    enum-known-o
+    (λ c κs. search needs)
+    (λ c κs. search needs)
+    (λ c κs. search needs)
+    (λ c. search needs)
     enum-told
     returns
-    check-requires
-    enum-known-found
-    enum-told-2
+    (λ c κs. search needs)
+    (λ c. search needs)
+    (λ c. search needs)
     perform-requires
-    same-length
-    same-length-2
+    (λ c. search needs)
+    (λ c. search needs)
     returns-2
-    same-length-3
-    same-length-4
-    same-length-5
+    (λ c. search needs)
+    (λ c. search needs)
+    (λ c. search needs)
     returns-3)

@@ -54,9 +54,6 @@ add-up c =
     let sums : tie.After-order-fits = search in
     sym (sums .order-fits .ensures) ∙ not-false _ (c .if3 .left)
 
-location-requires : tie.Need-location-requires
-location-requires c κs = search needs
-
 returns : tie.Need-returns
 returns c =
     λ i l drum₀ out₀ m e h.
@@ -69,20 +66,8 @@ returns-2 c =
     let here : tie.After-location = search in
     step-past h i (here .location .ensures) (c .if2 .taken)
 
-cell-requires : tie.Need-cell-requires
-cell-requires c κs = search needs
-
-enum-known-w : tie.Need-enum-known-w
-enum-known-w c = search needs
-
 enum-told : tie.Need-enum-told
 enum-told c = search needs
-
-same-length : tie.Need-same-length
-same-length c = search needs
-
-same-length-2 : tie.Need-same-length-2
-same-length-2 c = search needs
 
 returns-3 : tie.Need-returns-3
 returns-3 c =
@@ -97,12 +82,6 @@ order-fits-requires : tie.Need-order-fits-requires
 order-fits-requires c κs =
     let top : tie.Else2 = search in
     fits top
-
-same-length-3 : tie.Need-same-length-3
-same-length-3 c = search needs
-
-same-length-4 : tie.Need-same-length-4
-same-length-4 c = search needs
 
 returns-4 : tie.Need-returns-4
 returns-4 c =
@@ -131,12 +110,6 @@ tell-requires c κs =
     let start : tie.Start = search in
     (record { fitting = fits top; inside = inside (start .pre .0 .shows) }, omega (arith, here .location .ensures, some .if1 .left), word-fits word, made .as-done .ensures .1)
 
-enum-known-told : tie.Need-enum-known-told
-enum-known-told c = search needs
-
-enum-told-2 : tie.Need-enum-told-2
-enum-told-2 c = search needs
-
 obey-requires : tie.Need-obey-requires
 obey-requires c κs =
     let told : tie.After-tell = search in
@@ -144,15 +117,6 @@ obey-requires c κs =
     let start : tie.Start = start-of (here-of made) in
     let k = told .tell .ensures in
     ((ready (start .pre .0 .shows .memory), k .begun), subst (λ (n : ℕ). Indexed (eqb n 1) (start .args .index .now)) (sym (k .mode-is)) (start .pre .1))
-
-same-length-5 : tie.Need-same-length-5
-same-length-5 c = search needs
-
-same-length-6 : tie.Need-same-length-6
-same-length-6 c = search needs
-
-same-length-7 : tie.Need-same-length-7
-same-length-7 c = search needs
 
 returns-5 : tie.Need-returns-5
 returns-5 c =
@@ -169,15 +133,6 @@ returns-5 c =
     step-told h i (here .location .ensures) (some .if1 .left) (top .if2 .left) (mine word) (add-up sums) (made .as-done .ensures .0)
     (subst (λ (r : Checked). ToldTo r i drum₀ out₀ (start .args .drum .now) (start .args .marks .now) (told .tell .last .1 .1 .0) (told .tell .last .1 .1 .1 .0) m (word .w .given .0 .0) (made .as-done .result))
     (said .told .given .1) (told .tell .ensures .comes i drum₀ out₀ m e h))
-
-same-length-8 : tie.Need-same-length-8
-same-length-8 c = search needs
-
-same-length-9 : tie.Need-same-length-9
-same-length-9 c = search needs
-
-same-length-10 : tie.Need-same-length-10
-same-length-10 c = search needs
 
 returns-6 : tie.Need-returns-6
 returns-6 c =
@@ -202,29 +157,29 @@ pub step-spec : {M : Type 1} → statement M
 step-spec =
     tie.close
     (tie.spec
-    location-requires
+    (λ c κs. search needs)
     returns
     returns-2
-    cell-requires
-    enum-known-w
+    (λ c κs. search needs)
+    (λ c. search needs)
     enum-told
-    same-length
-    same-length-2
+    (λ c. search needs)
+    (λ c. search needs)
     returns-3
     order-fits-requires
-    same-length-3
-    same-length-4
+    (λ c. search needs)
+    (λ c. search needs)
     returns-4
     as-done-requires
     tell-requires
-    enum-known-told
-    enum-told-2
+    (λ c. search needs)
+    (λ c. search needs)
     obey-requires
-    same-length-5
-    same-length-6
-    same-length-7
+    (λ c. search needs)
+    (λ c. search needs)
+    (λ c. search needs)
     returns-5
-    same-length-8
-    same-length-9
-    same-length-10
+    (λ c. search needs)
+    (λ c. search needs)
+    (λ c. search needs)
     returns-6)

@@ -20,15 +20,6 @@ use borrow.Author.Needs.{needs}
 use Rattle.machine.proofs.obeying.tell.Statement.{statement}
 use Rattle.machine.proofs.obeying.tell.Tie as tie
 
-element-copy-out-if1 : tie.Need-element-copy-out-if1
-element-copy-out-if1 c = search needs
-
-element-copy-out-at : tie.Need-element-copy-out-at
-element-copy-out-at c = search needs
-
-sub-if2 : tie.Need-sub-if2
-sub-if2 c = search needs
-
 returns : tie.Need-returns
 returns c =
     let start : tie.Start = search in
@@ -44,9 +35,6 @@ trace-requires c κs =
     let start : tie.Start = search in
     let room : tie.Else2 = search in
     ((start .pre .0 .fitting, start .pre .1), (start .pre .2, start .pre .3, omega (arith, start .pre .0 .inside, room .if2 .left)))
-
-same-length : tie.Need-same-length
-same-length c = search needs
 
 returns-2 : tie.Need-returns-2
 returns-2 c =
@@ -74,11 +62,11 @@ pub tell-spec : {M : Type 1} → statement M
 tell-spec =
     tie.close
     (tie.spec
-    element-copy-out-if1
-    element-copy-out-at
-    sub-if2
+    (λ c. search needs)
+    (λ c. search needs)
+    (λ c. search needs)
     returns
     trace-requires
-    same-length
+    (λ c. search needs)
     returns-2
     returns-3)

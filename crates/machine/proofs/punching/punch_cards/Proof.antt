@@ -27,33 +27,12 @@ loop-holds c =
       sends = λ drum₀ out₀ m h. (m, h, refl);
     }
 
-at-most-five-requires : tie.Need-at-most-five-requires Inv-loop μ-loop
-at-most-five-requires c κs = search needs
-
-punch-card-requires : tie.Need-punch-card-requires Inv-loop μ-loop
-punch-card-requires c κs = search needs
-
-add-next : tie.Need-add-next Inv-loop μ-loop
-add-next c = search needs
-
-sub-left : tie.Need-sub-left Inv-loop μ-loop
-sub-left c = search needs
-
-loop-less : tie.Need-loop-less Inv-loop μ-loop
-loop-less c = search needs
-
 loop-again : tie.Need-loop-again Inv-loop μ-loop
 loop-again c =
     let at : tie.At-loop Inv-loop μ-loop = search in
     let k : tie.After-at-most-five Inv-loop μ-loop = search in
     let card : tie.After-punch-card Inv-loop μ-loop = search in
     punching-more (at .loop .inv) (k .at-most-five .ensures) (card .punch-card .kept .1 .1 .0) (card .punch-card .ensures .0) (card .punch-card .ensures .1)
-
-go-on-requires : tie.Need-go-on-requires Inv-loop μ-loop
-go-on-requires c κs = search needs
-
-same-length : tie.Need-same-length Inv-loop μ-loop
-same-length c = search needs
 
 returns : tie.Need-returns Inv-loop μ-loop
 returns c =
@@ -68,12 +47,12 @@ punch-cards-spec =
     Inv-loop
     μ-loop
     loop-holds
-    at-most-five-requires
-    punch-card-requires
-    add-next
-    sub-left
-    loop-less
+    (λ c κs. search needs)
+    (λ c κs. search needs)
+    (λ c. search needs)
+    (λ c. search needs)
+    (λ c. search needs)
     loop-again
-    go-on-requires
-    same-length
+    (λ c κs. search needs)
+    (λ c. search needs)
     returns)

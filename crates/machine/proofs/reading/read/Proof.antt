@@ -8,33 +8,6 @@ use borrow.Author.Needs.{needs}
 use Rattle.machine.proofs.reading.read.Statement.{statement}
 use Rattle.machine.proofs.reading.read.Tie as tie
 
-element-copy-out-reader : tie.Need-element-copy-out-reader
-element-copy-out-reader c = search needs
-
-judge-requires : tie.Need-judge-requires
-judge-requires c κs = search needs
-
-enum-known-j : tie.Need-enum-known-j
-enum-known-j c = search needs
-
-store-cards-requires : tie.Need-store-cards-requires
-store-cards-requires c κs = search needs
-
-go-on-requires : tie.Need-go-on-requires
-go-on-requires c κs = search needs
-
-element-write-row : tie.Need-element-write-row
-element-write-row c = search needs
-
-enum-known-j-2 : tie.Need-enum-known-j-2
-enum-known-j-2 c = search needs
-
-same-length : tie.Need-same-length
-same-length c = search needs
-
-same-length-2 : tie.Need-same-length-2
-same-length-2 c = search needs
-
 returns : tie.Need-returns
 returns c =
     λ i d drum₀ out₀ out m h.
@@ -58,14 +31,14 @@ pub read-spec : {M : Type 1} → statement M
 read-spec =
     tie.close
     (tie.spec
-    element-copy-out-reader
-    judge-requires
-    enum-known-j
-    store-cards-requires
-    go-on-requires
-    element-write-row
-    enum-known-j-2
-    same-length
-    same-length-2
+    (λ c. search needs)
+    (λ c κs. search needs)
+    (λ c. search needs)
+    (λ c κs. search needs)
+    (λ c κs. search needs)
+    (λ c. search needs)
+    (λ c. search needs)
+    (λ c. search needs)
+    (λ c. search needs)
     returns
     returns-2)

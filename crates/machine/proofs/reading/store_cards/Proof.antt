@@ -46,18 +46,6 @@ known x =
 loop-holds : tie.Need-loop-holds Inv-loop μ-loop
 loop-holds c = (omega arith, omega arith, record { keeps = λ drum₀ v h. (v, h, refl) })
 
-card-at-requires : tie.Need-card-at-requires Inv-loop μ-loop
-card-at-requires c κs = search needs
-
-enum-known-location : tie.Need-enum-known-location Inv-loop μ-loop
-enum-known-location c = search needs
-
-same-length : tie.Need-same-length Inv-loop μ-loop
-same-length c = search needs
-
-same-length-2 : tie.Need-same-length-2 Inv-loop μ-loop
-same-length-2 c = search needs
-
 returns : tie.Need-returns Inv-loop μ-loop
 returns c =
     let here : tie.At-loop Inv-loop μ-loop = search in
@@ -73,9 +61,6 @@ part-store-words-start : tie.Need-part-store-words-start Inv-loop μ-loop
 part-store-words-start c =
     let x : tie.After-location Inv-loop μ-loop = search in
     omega (arith, known x .within)
-
-part-store-words-end : tie.Need-part-store-words-end Inv-loop μ-loop
-part-store-words-end c = search needs
 
 store-words-requires : tie.Need-store-words-requires Inv-loop μ-loop
 store-words-requires c κs =
@@ -112,12 +97,6 @@ loop-again c =
           (part-is (start .args .deck .now) (l .at)) (w .ensures)),
     )
 
-same-length-3 : tie.Need-same-length-3 Inv-loop μ-loop
-same-length-3 c = search needs
-
-same-length-4 : tie.Need-same-length-4 Inv-loop μ-loop
-same-length-4 c = search needs
-
 returns-2 : tie.Need-returns-2 Inv-loop μ-loop
 returns-2 c =
     let here : tie.At-loop Inv-loop μ-loop = search in
@@ -130,18 +109,18 @@ store-cards-spec =
     Inv-loop
     μ-loop
     loop-holds
-    card-at-requires
-    enum-known-location
-    same-length
-    same-length-2
+    (λ c κs. search needs)
+    (λ c. search needs)
+    (λ c. search needs)
+    (λ c. search needs)
     returns
     sub-store-words
     part-store-words-start
-    part-store-words-end
+    (λ c. search needs)
     store-words-requires
     add-at
     loop-less
     loop-again
-    same-length-3
-    same-length-4
+    (λ c. search needs)
+    (λ c. search needs)
     returns-2)

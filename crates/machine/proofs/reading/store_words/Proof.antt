@@ -20,21 +20,6 @@ abbrev μ-loop : tie.MeasureT-loop
 loop-holds : tie.Need-loop-holds Inv-loop μ-loop
 loop-holds c = (omega arith, omega arith, omega arith, no-words)
 
-word-of-requires : tie.Need-word-of-requires Inv-loop μ-loop
-word-of-requires c κs = search needs
-
-add-keep : tie.Need-add-keep Inv-loop μ-loop
-add-keep c = search needs
-
-keep-requires : tie.Need-keep-requires Inv-loop μ-loop
-keep-requires c κs = search needs
-
-add-i : tie.Need-add-i Inv-loop μ-loop
-add-i c = search needs
-
-loop-less : tie.Need-loop-less Inv-loop μ-loop
-loop-less c = search needs
-
 loop-again : tie.Need-loop-again Inv-loop μ-loop
 loop-again c =
     let start : tie.Start Inv-loop μ-loop = search in
@@ -42,12 +27,6 @@ loop-again c =
     let word : tie.After-word-of Inv-loop μ-loop = search in
     let kept : tie.After-keep Inv-loop μ-loop = search in
     (omega arith, omega (arith, kept .keep .kept .0), omega (arith, kept .keep .kept .1 .0), one-word-more (here .loop .inv .3) (word .word-of .ensures) (start .pre .1 (here .loop .i) (omega arith)) (omega arith) (kept .keep .ensures))
-
-same-length : tie.Need-same-length Inv-loop μ-loop
-same-length c = search needs
-
-same-length-2 : tie.Need-same-length-2 Inv-loop μ-loop
-same-length-2 c = search needs
 
 returns : tie.Need-returns Inv-loop μ-loop
 returns c =
@@ -65,12 +44,12 @@ store-words-spec =
     Inv-loop
     μ-loop
     loop-holds
-    word-of-requires
-    add-keep
-    keep-requires
-    add-i
-    loop-less
+    (λ c κs. search needs)
+    (λ c. search needs)
+    (λ c κs. search needs)
+    (λ c. search needs)
+    (λ c. search needs)
     loop-again
-    same-length
-    same-length-2
+    (λ c. search needs)
+    (λ c. search needs)
     returns)

@@ -10,20 +10,11 @@ use borrow.Author.Needs.{needs}
 use Rattle.machine.proofs.reckoning.move_word.Statement.{statement}
 use Rattle.machine.proofs.reckoning.move_word.Tie as tie
 
-word-requires : tie.Need-word-requires
-word-requires c κs = search needs
-
 store-result-requires : tie.Need-store-result-requires
 store-result-requires c κs =
     let start : tie.Start = search in
     let word : tie.After-word = search in
     (start .pre .1, start .pre .2, rw (word .word .ensures) (start .pre .0 (start .args .b)))
-
-same-length : tie.Need-same-length
-same-length c = search needs
-
-same-length-2 : tie.Need-same-length-2
-same-length-2 c = search needs
 
 returns : tie.Need-returns
 returns c =
@@ -37,4 +28,4 @@ returns c =
 
 pub move-word-spec : {M : Type 1} → statement M
 move-word-spec =
-    tie.close (tie.spec word-requires store-result-requires same-length same-length-2 returns)
+    tie.close (tie.spec (λ c κs. search needs) store-result-requires (λ c. search needs) (λ c. search needs) returns)

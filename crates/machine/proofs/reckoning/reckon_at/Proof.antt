@@ -27,18 +27,6 @@ of-cells c drum₀ m h =
     c .reckon .ensures
     ∙ ap₂ (reckonedBy (start .args .k)) (word-is h (start .args .a) (x .word .ensures)) (word-is h (start .args .b) (y .word2 .ensures))
 
-word-requires : tie.Need-word-requires
-word-requires c κs = search needs
-
-word-requires-2 : tie.Need-word-requires-2
-word-requires-2 c κs = search needs
-
-reckon-requires : tie.Need-reckon-requires
-reckon-requires c κs = search needs
-
-enum-known-q : tie.Need-enum-known-q
-enum-known-q c = search needs
-
 store-result-requires : tie.Need-store-result-requires
 store-result-requires c κs =
     let start : tie.Start = search in
@@ -47,15 +35,6 @@ store-result-requires c κs =
     let r : tie.After-reckon = search in
     let q : tie.After-q = search in
     (start .pre .0, start .pre .1, fits-word (r .reckon .result) (q .q .given .0 .0) (q .q .given .1) (subst Fits (sym (r .reckon .ensures)) (reckoned-fits (start .args .k) (x .word .result) (y .word2 .result))))
-
-enum-known-q-2 : tie.Need-enum-known-q-2
-enum-known-q-2 c = search needs
-
-same-length : tie.Need-same-length
-same-length c = search needs
-
-same-length-2 : tie.Need-same-length-2
-same-length-2 c = search needs
 
 returns : tie.Need-returns
 returns c =
@@ -67,12 +46,6 @@ returns c =
     let s = kept .store-result in
     subst (λ (z : Reckoned). Did drum₀ out₀ (s .last .0) (s .last .1 .0) out (s .last .1 .1 .0) GoesOn (reckoned m (start .args .c) z))
     (sym (q .q .given .1) ∙ of-cells r drum₀ m (h .memory)) (s .ensures drum₀ out₀ out m h)
-
-same-length-3 : tie.Need-same-length-3
-same-length-3 c = search needs
-
-same-length-4 : tie.Need-same-length-4
-same-length-4 c = search needs
 
 returns-2 : tie.Need-returns-2
 returns-2 c =
@@ -87,15 +60,15 @@ pub reckon-at-spec : {M : Type 1} → statement M
 reckon-at-spec =
     tie.close
     (tie.spec
-    word-requires
-    word-requires-2
-    reckon-requires
-    enum-known-q
+    (λ c κs. search needs)
+    (λ c κs. search needs)
+    (λ c κs. search needs)
+    (λ c. search needs)
     store-result-requires
-    enum-known-q-2
-    same-length
-    same-length-2
+    (λ c. search needs)
+    (λ c. search needs)
+    (λ c. search needs)
     returns
-    same-length-3
-    same-length-4
+    (λ c. search needs)
+    (λ c. search needs)
     returns-2)

@@ -4,21 +4,6 @@ use borrow.Author.Needs.{needs}
 use Rattle.machine.proofs.reckoning.store_result.Statement.{statement}
 use Rattle.machine.proofs.reckoning.store_result.Tie as tie
 
-keep-requires : tie.Need-keep-requires
-keep-requires c κs = search needs
-
-keep-requires-2 : tie.Need-keep-requires-2
-keep-requires-2 c κs = search needs
-
-go-on-requires : tie.Need-go-on-requires
-go-on-requires c κs = search needs
-
-same-length : tie.Need-same-length
-same-length c = search needs
-
-same-length-2 : tie.Need-same-length-2
-same-length-2 c = search needs
-
 returns : tie.Need-returns
 returns c =
     λ drum₀ out₀ out m h.
@@ -30,4 +15,4 @@ returns c =
 pub store-result-spec : {M : Type 1} → statement M
 store-result-spec =
     tie.close
-    (tie.spec keep-requires keep-requires-2 go-on-requires same-length same-length-2 returns)
+    (tie.spec (λ c κs. search needs) (λ c κs. search needs) (λ c κs. search needs) (λ c. search needs) (λ c. search needs) returns)

@@ -8,15 +8,6 @@ use borrow.Author.Needs.{needs}
 use Rattle.machine.proofs.rows.number_next.Statement.{statement}
 use Rattle.machine.proofs.rows.number_next.Tie as tie
 
-element-copy-out-row : tie.Need-element-copy-out-row
-element-copy-out-row c = search needs
-
-add-row : tie.Need-add-row
-add-row c = search needs
-
-element-write-row : tie.Need-element-write-row
-element-write-row c = search needs
-
 returns : tie.Need-returns
 returns c =
     let start : tie.Start = search in
@@ -25,4 +16,4 @@ returns c =
     ap (λ (x : ℕ). set row 4 x) e
 
 pub number-next-spec : {M : Type 1} → statement M
-number-next-spec = tie.close (tie.spec element-copy-out-row add-row element-write-row returns)
+number-next-spec = tie.close (tie.spec (λ c. search needs) (λ c. search needs) (λ c. search needs) returns)

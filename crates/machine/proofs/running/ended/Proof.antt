@@ -3,16 +3,10 @@ use borrow.Author.Needs.{needs}
 use Rattle.machine.proofs.running.ended.Statement.{statement}
 use Rattle.machine.proofs.running.ended.Tie as tie
 
-state-in-requires : tie.Need-state-in-requires
-state-in-requires c κs = search needs
-
-element-copy-out-t8 : tie.Need-element-copy-out-t8
-element-copy-out-t8 c = search needs
-
 returns : tie.Need-returns
 returns c =
     let s : tie.After-state-in = search in
     rw (s .state-in .ensures)
 
 pub ended-spec : {M : Type 1} → statement M
-ended-spec = tie.close (tie.spec state-in-requires element-copy-out-t8 returns)
+ended-spec = tie.close (tie.spec (λ c κs. search needs) (λ c. search needs) returns)

@@ -47,18 +47,6 @@ fits-of c =
     let state : tie.After-state-fits = search in
     sym (state .state-fits .ensures) ∙ c .if2 .taken
 
-is-fit-requires : tie.Need-is-fit-requires
-is-fit-requires c κs = search needs
-
-not-run-requires : tie.Need-not-run-requires
-not-run-requires c κs = search needs
-
-same-length : tie.Need-same-length
-same-length c = search needs
-
-same-length-2 : tie.Need-same-length-2
-same-length-2 c = search needs
-
 returns : tie.Need-returns
 returns c =
     let said : tie.After-not-run = search in
@@ -69,36 +57,12 @@ returns c =
     subst (λ (r : Ran). RunRight (ran x) (x .drum) (x .marks) (x .out) r) (sym (said .not-run .ensures))
     (run-bad-drum x (sym (fit .is-fit .ensures) ∙ not-true _ (test .if1 .taken)))
 
-check-deck-requires : tie.Need-check-deck-requires
-check-deck-requires c κs = search needs
-
-enum-known-d : tie.Need-enum-known-d
-enum-known-d c = search needs
-
-not-run-requires-2 : tie.Need-not-run-requires-2
-not-run-requires-2 c κs = search needs
-
-enum-known-d-2 : tie.Need-enum-known-d-2
-enum-known-d-2 c = search needs
-
-state-fits-requires : tie.Need-state-fits-requires
-state-fits-requires c κs = search needs
-
 run-on-requires : tie.Need-run-on-requires
 run-on-requires c κs =
     let state : tie.Then2 = search in
     let deck : tie.After-d2 = deck-of state in
     let start : tie.Start = start-of (checked-of deck) in
     run-begins (call start) (fit-of (checked-of deck)) _ _ _ (good-of deck) (fits-of state) (three start)
-
-same-length-3 : tie.Need-same-length-3
-same-length-3 c = search needs
-
-same-length-4 : tie.Need-same-length-4
-same-length-4 c = search needs
-
-same-length-5 : tie.Need-same-length-5
-same-length-5 c = search needs
 
 returns-2 : tie.Need-returns-2
 returns-2 c =
@@ -107,15 +71,6 @@ returns-2 c =
     let deck : tie.After-d2 = deck-of state in
     let start : tie.Start = start-of (checked-of deck) in
     run-right (call start) (fit-of (checked-of deck)) _ _ _ (good-of deck) (fits-of state) (done .run-on .ensures)
-
-not-run-requires-3 : tie.Need-not-run-requires-3
-not-run-requires-3 c κs = search needs
-
-same-length-6 : tie.Need-same-length-6
-same-length-6 c = search needs
-
-same-length-7 : tie.Need-same-length-7
-same-length-7 c = search needs
 
 returns-3 : tie.Need-returns-3
 returns-3 c =
@@ -126,12 +81,6 @@ returns-3 c =
     let x = call start in
     subst (λ (r : Ran). RunRight (ran x) (x .drum) (x .marks) (x .out) r) (sym (said .not-run2 .ensures))
     (run-bad-deck x (fit-of checked) (deck .d .given .0 .0) (sym (deck .d .given .1) ∙ checked .check-deck .ensures))
-
-same-length-8 : tie.Need-same-length-8
-same-length-8 c = search needs
-
-same-length-9 : tie.Need-same-length-9
-same-length-9 c = search needs
 
 returns-4 : tie.Need-returns-4
 returns-4 c =
@@ -148,25 +97,25 @@ pub run-spec : {M : Type 1} → statement M
 run-spec =
     tie.close
     (tie.spec
-    is-fit-requires
-    not-run-requires
-    same-length
-    same-length-2
+    (λ c κs. search needs)
+    (λ c κs. search needs)
+    (λ c. search needs)
+    (λ c. search needs)
     returns
-    check-deck-requires
-    enum-known-d
-    not-run-requires-2
-    enum-known-d-2
-    state-fits-requires
+    (λ c κs. search needs)
+    (λ c. search needs)
+    (λ c κs. search needs)
+    (λ c. search needs)
+    (λ c κs. search needs)
     run-on-requires
-    same-length-3
-    same-length-4
-    same-length-5
+    (λ c. search needs)
+    (λ c. search needs)
+    (λ c. search needs)
     returns-2
-    not-run-requires-3
-    same-length-6
-    same-length-7
+    (λ c κs. search needs)
+    (λ c. search needs)
+    (λ c. search needs)
     returns-3
-    same-length-8
-    same-length-9
+    (λ c. search needs)
+    (λ c. search needs)
     returns-4)

@@ -80,14 +80,6 @@ whole c {drum} {marks} {out} {r} x e h =
     subst (λ (y : Course). Ended (a .drum .now) (a .out .now) drum marks out r y)
     (sym e ∙ ap (λ (s : State). runOf (callOf (a .drum .now) (a .marks .now) (a .out .now) (a .deck .now) s (a .budget) (a .switches))) q) h
 
-index-requires : tie.Need-index-requires Inv-loop μ-loop
-index-requires c κs =
-    search needs
-
-row-for-requires : tie.Need-row-for-requires Inv-loop μ-loop
-row-for-requires c κs =
-    search needs
-
 loop-holds : tie.Need-loop-holds Inv-loop μ-loop
 loop-holds c =
     let row : tie.After-row-for Inv-loop μ-loop = search in
@@ -111,14 +103,6 @@ step-requires c κs =
     let v = at .loop .inv in
     (record { old-drum = _; old-out = _; machine = v .1 .0; shows = v .1 .1 }, v .0)
 
-may-go-on-requires : tie.Need-may-go-on-requires Inv-loop μ-loop
-may-go-on-requires c κs =
-    search needs
-
-add-count : tie.Need-add-count Inv-loop μ-loop
-add-count c =
-    search needs
-
 loop-less : tie.Need-loop-less Inv-loop μ-loop
 loop-less c =
     omega arith
@@ -139,19 +123,11 @@ loop-again c =
       ),
     )
 
-completed-by-requires : tie.Need-completed-by-requires Inv-loop μ-loop
-completed-by-requires c κs =
-    search needs
-
 add-ended : tie.Need-add-ended Inv-loop μ-loop
 add-ended c =
     let done : tie.After-step Inv-loop μ-loop = search in
     let one : c .completed-by .result ≤ 1 = rw (c .completed-by .ensures) (at-most-one (done .step .result)) in
     omega (arith, one, in-of done .loop-test .taken, start-of (at-of (in-of done)) .fits .budget)
-
-ended-requires : tie.Need-ended-requires Inv-loop μ-loop
-ended-requires c κs =
-    search needs
 
 same-length : tie.Need-same-length Inv-loop μ-loop
 same-length c =
@@ -180,10 +156,6 @@ returns c =
     let x : Course = record { outcome = step (lent at) (before at) .outcome; machine = step (lent at) (before at) .machine; count = at .loop .count + completed (step (lent at) (before at) .outcome) } in
     whole at x (sym (at .loop .inv .1 .3) ∙ run-end (lent at) _ (at .loop .count) (before at) (in-of done .loop-test .taken) (ap mayGoOn (sym (d .outcome-is)) ∙ sym (went .may-go-on .ensures) ∙ left .if1 .left))
     (rw (said .ended .ensures) (ended-as x (done .step .result) (d .shows) (d .outcome-is) (ap (λ (k : ℕ). at .loop .count + k) (one .completed-by .ensures ∙ ap completed (d .outcome-is)))))
-
-ended-requires-2 : tie.Need-ended-requires-2 Inv-loop μ-loop
-ended-requires-2 c κs =
-    search needs
 
 same-length-4 : tie.Need-same-length-4 Inv-loop μ-loop
 same-length-4 c =
@@ -215,22 +187,22 @@ run-on-spec =
     (tie.spec
     Inv-loop
     μ-loop
-    index-requires
-    row-for-requires
+    (λ c κs. search needs)
+    (λ c κs. search needs)
     loop-holds
     step-requires
-    may-go-on-requires
-    add-count
+    (λ c κs. search needs)
+    (λ c. search needs)
     loop-less
     loop-again
-    completed-by-requires
+    (λ c κs. search needs)
     add-ended
-    ended-requires
+    (λ c κs. search needs)
     same-length
     same-length-2
     same-length-3
     returns
-    ended-requires-2
+    (λ c κs. search needs)
     same-length-4
     same-length-5
     same-length-6

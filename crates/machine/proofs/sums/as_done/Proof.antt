@@ -9,19 +9,10 @@ use Rattle.machine.proofs.Boxes.{done-word}
 use Rattle.machine.proofs.sums.as_done.Statement.{statement}
 use Rattle.machine.proofs.sums.as_done.Tie as tie
 
-is-minus-requires : tie.Need-is-minus-requires
-is-minus-requires c κs = search needs
-
 returns : tie.Need-returns
 returns c =
     let minus : tie.After-is-minus = search in
     (simp (sym (minus .is-minus .ensures) ∙ not-true _ (c .if1 .taken)), search needs)
-
-box-word-requires : tie.Need-box-word-requires
-box-word-requires c κs = search needs
-
-add-result : tie.Need-add-result
-add-result c = search needs
 
 returns-2 : tie.Need-returns-2
 returns-2 c =
@@ -35,4 +26,4 @@ returns-2 c =
 
 pub as-done-spec : {M : Type 1} → statement M
 as-done-spec =
-    tie.close (tie.spec is-minus-requires returns box-word-requires add-result returns-2)
+    tie.close (tie.spec (λ c κs. search needs) returns (λ c κs. search needs) (λ c. search needs) returns-2)

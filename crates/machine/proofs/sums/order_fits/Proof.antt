@@ -11,22 +11,10 @@ use borrow.Author.Needs.{needs}
 use Rattle.machine.proofs.sums.order_fits.Statement.{statement}
 use Rattle.machine.proofs.sums.order_fits.Tie as tie
 
-is-minus-requires : tie.Need-is-minus-requires
-is-minus-requires c κs = search needs
-
 returns : tie.Need-returns
 returns c =
     let minus : tie.After-is-minus = search in
     simp (sym (minus .is-minus .ensures) ∙ not-true _ (c .if1 .taken))
-
-parts-of-requires : tie.Need-parts-of-requires
-parts-of-requires c κs = search needs
-
-element-copy-out-if2 : tie.Need-element-copy-out-if2
-element-copy-out-if2 c = search needs
-
-add-if2 : tie.Need-add-if2
-add-if2 c = search needs
 
 returns-2 : tie.Need-returns-2
 returns-2 c =
@@ -37,12 +25,6 @@ returns-2 c =
     let row : List ℕ = start .args .row .now in
     simp (sym (minus .is-minus .ensures) ∙ not-false _ (one .if1 .left), lt-leb (aIn w + getD row 1 0) 999 (omega arith))
 
-element-copy-out-if3 : tie.Need-element-copy-out-if3
-element-copy-out-if3 c = search needs
-
-add-if3 : tie.Need-add-if3
-add-if3 c = search needs
-
 returns-3 : tie.Need-returns-3
 returns-3 c =
     let start : tie.Start = search in
@@ -51,12 +33,6 @@ returns-3 c =
     let w : ℕ = start .args .w in
     let row : List ℕ = start .args .row .now in
     simp (sym (minus .is-minus .ensures) ∙ not-false _ (one .if1 .left), le-leb (aIn w + getD row 1 0) 999 (omega arith), lt-leb (bIn w + getD row 2 0) 999 (omega arith))
-
-element-copy-out-result : tie.Need-element-copy-out-result
-element-copy-out-result c = search needs
-
-add-result : tie.Need-add-result
-add-result c = search needs
 
 returns-4 : tie.Need-returns-4
 returns-4 c =
@@ -72,15 +48,15 @@ pub order-fits-spec : {M : Type 1} → statement M
 order-fits-spec =
     tie.close
     (tie.spec
-    is-minus-requires
+    (λ c κs. search needs)
     returns
-    parts-of-requires
-    element-copy-out-if2
-    add-if2
+    (λ c κs. search needs)
+    (λ c. search needs)
+    (λ c. search needs)
     returns-2
-    element-copy-out-if3
-    add-if3
+    (λ c. search needs)
+    (λ c. search needs)
     returns-3
-    element-copy-out-result
-    add-result
+    (λ c. search needs)
+    (λ c. search needs)
     returns-4)

@@ -6,21 +6,6 @@ use Rattle.rules.specs.Drum.{view, wordAt}
 use Rattle.machine.proofs.telling.trace_words.Statement.{statement}
 use Rattle.machine.proofs.telling.trace_words.Tie as tie
 
-box-word-requires : tie.Need-box-word-requires
-box-word-requires c κs = search needs
-
-word-of-a-requires : tie.Need-word-of-a-requires
-word-of-a-requires c κs = search needs
-
-parts-of-requires : tie.Need-parts-of-requires
-parts-of-requires c κs = search needs
-
-word-requires : tie.Need-word-requires
-word-requires c κs = search needs
-
-word-requires-2 : tie.Need-word-requires-2
-word-requires-2 c κs = search needs
-
 returns : tie.Need-returns
 returns c =
     let start : tie.Start = search in
@@ -36,9 +21,9 @@ pub trace-words-spec : {M : Type 1} → statement M
 trace-words-spec =
     tie.close
     (tie.spec
-    box-word-requires
-    word-of-a-requires
-    parts-of-requires
-    word-requires
-    word-requires-2
+    (λ c κs. search needs)
+    (λ c κs. search needs)
+    (λ c κs. search needs)
+    (λ c κs. search needs)
+    (λ c κs. search needs)
     returns)

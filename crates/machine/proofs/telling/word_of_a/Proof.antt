@@ -8,9 +8,6 @@ use borrow.Author.Needs.{needs}
 use Rattle.machine.proofs.telling.word_of_a.Statement.{statement}
 use Rattle.machine.proofs.telling.word_of_a.Tie as tie
 
-parts-of-requires : tie.Need-parts-of-requires
-parts-of-requires c κs = search needs
-
 returns : tie.Need-returns
 returns c =
     let start : tie.Start = search in
@@ -21,13 +18,10 @@ returns-2 c =
     let start : tie.Start = search in
     simp (lt-ltb 0 (firstDigit (start .args .x)) (omega arith), le-ltb 0 (aIn (start .args .x)) (omega arith))
 
-word-requires : tie.Need-word-requires
-word-requires c κs = search needs
-
 returns-3 : tie.Need-returns-3
 returns-3 c =
     let start : tie.Start = search in
     simp (lt-ltb 0 (firstDigit (start .args .x)) (omega arith), lt-ltb 0 (aIn (start .args .x)) (omega arith)) (c .word .ensures ∙ ap (wordAt (view (start .args .drum .now) (start .args .marks .now))) (omega arith))
 
 pub word-of-a-spec : {M : Type 1} → statement M
-word-of-a-spec = tie.close (tie.spec parts-of-requires returns returns-2 word-requires returns-3)
+word-of-a-spec = tie.close (tie.spec (λ c κs. search needs) returns returns-2 (λ c κs. search needs) returns-3)

@@ -7,27 +7,6 @@ use Rattle.machine.proofs.tracing.retrace.Tie as tie
 enum-told : tie.Need-enum-told
 enum-told c = search needs
 
-turn-requires : tie.Need-turn-requires
-turn-requires c κs = search needs
-
-enum-told-2 : tie.Need-enum-told-2
-enum-told-2 c = search needs
-
-turn-requires-2 : tie.Need-turn-requires-2
-turn-requires-2 c κs = search needs
-
-enum-told-3 : tie.Need-enum-told-3
-enum-told-3 c = search needs
-
-location-requires : tie.Need-location-requires
-location-requires c κs = search needs
-
-keep-requires : tie.Need-keep-requires
-keep-requires c κs = search needs
-
-turn-requires-3 : tie.Need-turn-requires-3
-turn-requires-3 c κs = search needs
-
 returns : tie.Need-returns
 returns c =
     λ drum₀ out₀ out m h.
@@ -39,12 +18,6 @@ returns-2 c =
     λ drum₀ out₀ out m h.
     let told : tie.After-enum-told2 = search in
     rw (told .enum-told2 .given .1) (turned-on h 0 (c .turn2 .ensures))
-
-same-length : tie.Need-same-length
-same-length c = search needs
-
-same-length-2 : tie.Need-same-length-2
-same-length-2 c = search needs
 
 returns-3 : tie.Need-returns-3
 returns-3 c =
@@ -60,15 +33,15 @@ retrace-spec =
     tie.close
     (tie.spec
     enum-told
-    turn-requires
-    enum-told-2
-    turn-requires-2
-    enum-told-3
-    location-requires
-    keep-requires
-    turn-requires-3
+    (λ c κs. search needs)
+    (λ c. search needs)
+    (λ c κs. search needs)
+    (λ c. search needs)
+    (λ c κs. search needs)
+    (λ c κs. search needs)
+    (λ c κs. search needs)
     returns
     returns-2
-    same-length
-    same-length-2
+    (λ c. search needs)
+    (λ c. search needs)
     returns-3)

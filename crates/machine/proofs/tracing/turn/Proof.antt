@@ -8,24 +8,12 @@ use borrow.Author.Needs.{needs}
 use Rattle.machine.proofs.tracing.turn.Statement.{statement}
 use Rattle.machine.proofs.tracing.turn.Tie as tie
 
-element-copy-out-if1 : tie.Need-element-copy-out-if1
-element-copy-out-if1 c = search needs
-
-go-on-requires : tie.Need-go-on-requires
-go-on-requires c κs = search needs
-
-element-write-row : tie.Need-element-write-row
-element-write-row c = search needs
-
 returns : tie.Need-returns
 returns c =
     let start : tie.Start = search in
     let test : tie.Then1 = search in
     let gone : tie.After-go-on = search in
     simp (eq-eqb _ _ (test .if1 .taken)) (ap (λ (r : List ℕ). set r 8 (start .args .t)) (gone .go-on .ensures))
-
-go-on-requires-2 : tie.Need-go-on-requires-2
-go-on-requires-2 c κs = search needs
 
 returns-2 : tie.Need-returns-2
 returns-2 c =
@@ -36,9 +24,9 @@ pub turn-spec : {M : Type 1} → statement M
 turn-spec =
     tie.close
     (tie.spec
-    element-copy-out-if1
-    go-on-requires
-    element-write-row
+    (λ c. search needs)
+    (λ c κs. search needs)
+    (λ c. search needs)
     returns
-    go-on-requires-2
+    (λ c κs. search needs)
     returns-2)

@@ -3,15 +3,6 @@ use borrow.Author.Needs.{needs}
 use Rattle.panel.proofs.calls.ending_told.Statement.{statement}
 use Rattle.panel.proofs.calls.ending_told.Tie as tie
 
-ending-number-requires : tie.Need-ending-number-requires
-ending-number-requires c κs = search needs
-
-ending-place-requires : tie.Need-ending-place-requires
-ending-place-requires c κs = search needs
-
-ending-shown-requires : tie.Need-ending-shown-requires
-ending-shown-requires c κs = search needs
-
 returns : tie.Need-returns
 returns c =
     let place : tie.After-ending-place = search in
@@ -20,4 +11,4 @@ returns c =
     λ i. record { number = number .ending-number .ensures i; place = place .ending-place .ensures i; count = start .args .count; shown = c .ending-shown .ensures i; written = start .args .written }
 
 pub ending-told-spec : {M : Type 1} → statement M
-ending-told-spec = tie.close (tie.spec ending-number-requires ending-place-requires ending-shown-requires returns)
+ending-told-spec = tie.close (tie.spec (λ c κs. search needs) (λ c κs. search needs) (λ c κs. search needs) returns)

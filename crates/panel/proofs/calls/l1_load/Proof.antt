@@ -7,24 +7,6 @@ use Rattle.panel.proofs.Outcomes.{load-barred, load-done}
 use Rattle.panel.proofs.calls.l1_load.Statement.{statement}
 use Rattle.panel.proofs.calls.l1_load.Tie as tie
 
-is-state-requires : tie.Need-is-state-requires
-is-state-requires c κs = search needs
-
-why-barred-requires : tie.Need-why-barred-requires
-why-barred-requires c κs = search needs
-
-loading-told-requires : tie.Need-loading-told-requires
-loading-told-requires c κs = search needs
-
-same-length : tie.Need-same-length
-same-length c = search needs
-
-same-length-2 : tie.Need-same-length-2
-same-length-2 c = search needs
-
-same-length-3 : tie.Need-same-length-3
-same-length-3 c = search needs
-
 returns : tie.Need-returns
 returns c =
     let why : tie.After-why-barred = search in
@@ -39,28 +21,10 @@ state-in-requires c κs =
     let nine : tie.Else1 = search in
     eqb-true _ _ (sym (nine .before .is-state .ensures) ∙ not-false _ (nine .if1 .left))
 
-is-on-requires : tie.Need-is-on-requires
-is-on-requires c κs = search needs
-
-load-requires : tie.Need-load-requires
-load-requires c κs = search needs
-
 put-state-requires : tie.Need-put-state-requires
 put-state-requires c κs =
     let nine : tie.Else1 = search in
     eqb-true _ _ (sym (nine .before .is-state .ensures) ∙ not-false _ (nine .if1 .left))
-
-loading-told-requires-2 : tie.Need-loading-told-requires-2
-loading-told-requires-2 c κs = search needs
-
-same-length-4 : tie.Need-same-length-4
-same-length-4 c = search needs
-
-same-length-5 : tie.Need-same-length-5
-same-length-5 c = search needs
-
-same-length-6 : tie.Need-same-length-6
-same-length-6 c = search needs
 
 returns-2 : tie.Need-returns-2
 returns-2 c =
@@ -80,19 +44,19 @@ pub l1-load-spec : {M : Type 1} → statement M
 l1-load-spec =
     tie.close
     (tie.spec
-    is-state-requires
-    why-barred-requires
-    loading-told-requires
-    same-length
-    same-length-2
-    same-length-3
+    (λ c κs. search needs)
+    (λ c κs. search needs)
+    (λ c κs. search needs)
+    (λ c. search needs)
+    (λ c. search needs)
+    (λ c. search needs)
     returns
     state-in-requires
-    is-on-requires
-    load-requires
+    (λ c κs. search needs)
+    (λ c κs. search needs)
     put-state-requires
-    loading-told-requires-2
-    same-length-4
-    same-length-5
-    same-length-6
+    (λ c κs. search needs)
+    (λ c. search needs)
+    (λ c. search needs)
+    (λ c. search needs)
     returns-2)

@@ -7,24 +7,6 @@ use Rattle.panel.proofs.Outcomes.{run-barred, run-done}
 use Rattle.panel.proofs.calls.l1_run.Statement.{statement}
 use Rattle.panel.proofs.calls.l1_run.Tie as tie
 
-is-state-requires : tie.Need-is-state-requires
-is-state-requires c κs = search needs
-
-why-barred-requires : tie.Need-why-barred-requires
-why-barred-requires c κs = search needs
-
-ending-told-requires : tie.Need-ending-told-requires
-ending-told-requires c κs = search needs
-
-same-length : tie.Need-same-length
-same-length c = search needs
-
-same-length-2 : tie.Need-same-length-2
-same-length-2 c = search needs
-
-same-length-3 : tie.Need-same-length-3
-same-length-3 c = search needs
-
 returns : tie.Need-returns
 returns c =
     let why : tie.After-why-barred = search in
@@ -39,31 +21,10 @@ state-in-requires c κs =
     let nine : tie.Else1 = search in
     eqb-true _ _ (sym (nine .before .is-state .ensures) ∙ not-false _ (nine .if1 .left))
 
-is-on-requires : tie.Need-is-on-requires
-is-on-requires c κs = search needs
-
-run-requires : tie.Need-run-requires
-run-requires c κs = search needs
-
 put-state-requires : tie.Need-put-state-requires
 put-state-requires c κs =
     let nine : tie.Else1 = search in
     eqb-true _ _ (sym (nine .before .is-state .ensures) ∙ not-false _ (nine .if1 .left))
-
-ending-told-requires-2 : tie.Need-ending-told-requires-2
-ending-told-requires-2 c κs = search needs
-
-same-length-4 : tie.Need-same-length-4
-same-length-4 c = search needs
-
-same-length-5 : tie.Need-same-length-5
-same-length-5 c = search needs
-
-same-length-6 : tie.Need-same-length-6
-same-length-6 c = search needs
-
-same-length-7 : tie.Need-same-length-7
-same-length-7 c = search needs
 
 returns-2 : tie.Need-returns-2
 returns-2 c =
@@ -83,20 +44,20 @@ pub l1-run-spec : {M : Type 1} → statement M
 l1-run-spec =
     tie.close
     (tie.spec
-    is-state-requires
-    why-barred-requires
-    ending-told-requires
-    same-length
-    same-length-2
-    same-length-3
+    (λ c κs. search needs)
+    (λ c κs. search needs)
+    (λ c κs. search needs)
+    (λ c. search needs)
+    (λ c. search needs)
+    (λ c. search needs)
     returns
     state-in-requires
-    is-on-requires
-    run-requires
+    (λ c κs. search needs)
+    (λ c κs. search needs)
     put-state-requires
-    ending-told-requires-2
-    same-length-4
-    same-length-5
-    same-length-6
-    same-length-7
+    (λ c κs. search needs)
+    (λ c. search needs)
+    (λ c. search needs)
+    (λ c. search needs)
+    (λ c. search needs)
     returns-2)

@@ -7,19 +7,10 @@ use Rattle.panel.proofs.Outcomes.{barred-by}
 use Rattle.panel.proofs.calls.why_barred.Statement.{statement}
 use Rattle.panel.proofs.calls.why_barred.Tie as tie
 
-is-fit-requires : tie.Need-is-fit-requires
-is-fit-requires c κs = search needs
-
 returns : tie.Need-returns
 returns c =
     let fit : tie.After-is-fit = search in
     barred-by _ _ _ (sym (not-true _ (c .if1 .taken)) ∙ fit .is-fit .ensures) refl
-
-check-deck-requires : tie.Need-check-deck-requires
-check-deck-requires c κs = search needs
-
-enum-known-d : tie.Need-enum-known-d
-enum-known-d c = search needs
 
 enum-told : tie.Need-enum-told
 enum-told c = search needs
@@ -41,4 +32,4 @@ returns-3 c =
 pub why-barred-spec : {M : Type 1} → statement M
 why-barred-spec =
     tie.close
-    (tie.spec is-fit-requires returns check-deck-requires enum-known-d enum-told returns-2 returns-3)
+    (tie.spec (λ c κs. search needs) returns (λ c κs. search needs) (λ c. search needs) enum-told returns-2 returns-3)

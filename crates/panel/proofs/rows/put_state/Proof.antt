@@ -15,9 +15,6 @@ Inv-loop row₀ numbers i₀ row i = (i ≤ 9) × (length row ≡ 9) × (take i 
 abbrev μ-loop : tie.MeasureT-loop
 μ-loop row₀ numbers i₀ row i = 9 - i
 
-numbers-of-requires : tie.Need-numbers-of-requires Inv-loop μ-loop
-numbers-of-requires c κs = search needs
-
 loop-holds : tie.Need-loop-holds Inv-loop μ-loop
 loop-holds c = (omega arith, search needs, refl)
 
@@ -67,7 +64,7 @@ put-state-spec =
     (tie.spec
     Inv-loop
     μ-loop
-    numbers-of-requires
+    (λ c κs. search needs)
     loop-holds
     mul-row
     array-read-row

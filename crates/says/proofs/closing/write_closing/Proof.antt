@@ -8,33 +8,6 @@ use borrow.Author.Needs.{needs}
 use Rattle.says.proofs.closing.write_closing.Statement.{statement}
 use Rattle.says.proofs.closing.write_closing.Tie as tie
 
-enum-known-ending : tie.Need-enum-known-ending
-enum-known-ending c = search needs
-
-bar-number-requires : tie.Need-bar-number-requires
-bar-number-requires c κs = search needs
-
-bar-place-requires : tie.Need-bar-place-requires
-bar-place-requires c κs = search needs
-
-write-line-requires : tie.Need-write-line-requires
-write-line-requires c κs = search needs
-
-enum-known-ending-2 : tie.Need-enum-known-ending-2
-enum-known-ending-2 c = search needs
-
-outcome-number-requires : tie.Need-outcome-number-requires
-outcome-number-requires c κs = search needs
-
-outcome-shown-requires : tie.Need-outcome-shown-requires
-outcome-shown-requires c κs = search needs
-
-write-stop-requires : tie.Need-write-stop-requires
-write-stop-requires c κs = search needs
-
-same-length : tie.Need-same-length
-same-length c = search needs
-
 returns : tie.Need-returns
 returns c =
     let start : tie.Start = search in
@@ -45,9 +18,6 @@ returns c =
     let line : tie.After-write-line = search in
     let w = line-told (a .ending) (a .state) (a .count) (a .out .now) _ _ _ _ _ (which .ending .given .1) (number .bar-number .ensures) (place .bar-place .ensures) (line .write-line .ensures) in
     (w, closed-counts _ _ _ _ _ w)
-
-same-length-2 : tie.Need-same-length-2
-same-length-2 c = search needs
 
 returns-2 : tie.Need-returns-2
 returns-2 c =
@@ -60,9 +30,6 @@ returns-2 c =
     let said = ap {B = ℕ} (λ (t : Bool). pick t 24 0) (sym (c .if1 .taken)) in
     let w = stop-told (a .ending) (a .state) (a .count) (a .out .now) _ _ _ _ _ _ (which .ending2 .given .1) (number .outcome-number .ensures) (shown .outcome-shown .ensures) said (card .write-stop .ensures) in
     (w, closed-counts _ _ _ _ _ w)
-
-same-length-3 : tie.Need-same-length-3
-same-length-3 c = search needs
 
 returns-3 : tie.Need-returns-3
 returns-3 c =
@@ -80,17 +47,17 @@ pub write-closing-spec : {M : Type 1} → statement M
 write-closing-spec =
     tie.close
     (tie.spec
-    enum-known-ending
-    bar-number-requires
-    bar-place-requires
-    write-line-requires
-    enum-known-ending-2
-    outcome-number-requires
-    outcome-shown-requires
-    write-stop-requires
-    same-length
+    (λ c. search needs)
+    (λ c κs. search needs)
+    (λ c κs. search needs)
+    (λ c κs. search needs)
+    (λ c. search needs)
+    (λ c κs. search needs)
+    (λ c κs. search needs)
+    (λ c κs. search needs)
+    (λ c. search needs)
     returns
-    same-length-2
+    (λ c. search needs)
     returns-2
-    same-length-3
+    (λ c. search needs)
     returns-3)

@@ -5,9 +5,6 @@ use borrow.Author.Needs.{needs}
 use Rattle.words.proofs.targets.exponent_target.Statement.{statement}
 use Rattle.words.proofs.targets.exponent_target.Tie as tie
 
-exponent-in-requires : tie.Need-exponent-in-requires
-exponent-in-requires c κs = search needs
-
 returns : tie.Need-returns
 returns c =
     let x : tie.After-exponent-in = search in
@@ -19,4 +16,4 @@ returns-2 c =
     rw (← x .exponent-in .ensures, lt-leb _ _ (c .if1 .left))
 
 pub exponent-target-spec : {M : Type 1} → statement M
-exponent-target-spec = tie.close (tie.spec exponent-in-requires returns returns-2)
+exponent-target-spec = tie.close (tie.spec (λ c κs. search needs) returns returns-2)

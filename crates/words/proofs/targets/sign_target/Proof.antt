@@ -3,9 +3,6 @@ use borrow.Author.Needs.{needs}
 use Rattle.words.proofs.targets.sign_target.Statement.{statement}
 use Rattle.words.proofs.targets.sign_target.Tie as tie
 
-is-negative-requires : tie.Need-is-negative-requires
-is-negative-requires c κs = search needs
-
 returns : tie.Need-returns
 returns c =
     let x : tie.After-is-negative = search in
@@ -17,4 +14,4 @@ returns-2 c =
     rw (← x .is-negative .ensures, c .if1 .left)
 
 pub sign-target-spec : {M : Type 1} → statement M
-sign-target-spec = tie.close (tie.spec is-negative-requires returns returns-2)
+sign-target-spec = tie.close (tie.spec (λ c κs. search needs) returns returns-2)
