@@ -122,60 +122,13 @@ const ST_TR_ERAS: Row = Row(452, Trace(StTrEras), Free, *b"ST TR ERAS");
 
 const NOOP: Row = Row(454, Go(Noop), Free, *b"NOOP      ");
 
-// The table.
-const ROWS: [Row; 36] = [
-    ADD,
-    SUB,
-    MPY,
-    DIV,
-    NGMPY,
-    MOVE,
-    UNC_STOP,
-    COND_STOP,
-    TR_SGN,
-    TR_EXP,
-    TR,
-    TR_SUBR,
-    LOOP_A,
-    LOOP_B,
-    LOOP_C,
-    LOOP_AB,
-    LOOP_AC,
-    LOOP_BC,
-    LOOP_ABC,
-    SET_A,
-    SET_B,
-    SET_C,
-    ADD_A,
-    ADD_B,
-    ADD_C,
-    SUB_A,
-    SUB_B,
-    SUB_C,
-    SQRT,
-    ABS,
-    READ,
-    PCH,
-    START_TR,
-    STOP_TR,
-    ST_TR_ERAS,
-    NOOP,
-];
-
-// The row with this number, counted from 0.
+// The row with this number, counted from 0: the table. The rows are named here and stand in no array, which the compiler would build anew for
+// each order.
 fn row_at(i: usize) -> Row
     requires { ⌜ i < 36 ⌝ }
     ensures { λ r. ⌜ (r .0 ≡ codeAt i codes) × (As (r .1) (r .2) ≡ rowBuilt i codes) × (r .3 ≡ nameAt i codes) ⌝ }
 {
-    ROWS[i]
-}
-
-// What the row with this number is; behind the last nothing is built. The interpreter asks for each order, so the row is named here and not
-// taken out of the array, which the compiler would build anew each time.
-pub(crate) fn built_of(i: u16) -> Built
-    ensures { λ r. ⌜ r ≡ rowBuilt i codes ⌝ }
-{
-    let row = match i {
+    match i {
         0 => ADD,
         1 => SUB,
         2 => MPY,
@@ -211,9 +164,18 @@ pub(crate) fn built_of(i: u16) -> Built
         32 => START_TR,
         33 => STOP_TR,
         34 => ST_TR_ERAS,
-        35 => NOOP,
-        _ => return Built::No,
-    };
+        _ => NOOP,
+    }
+}
+
+// What the row with this number is; behind the last nothing is built.
+pub(crate) fn built_of(i: u16) -> Built
+    ensures { λ r. ⌜ r ≡ rowBuilt i codes ⌝ }
+{
+    if 35 < i {
+        return Built::No;
+    }
+    let row = row_at(i as usize);
     let operation = row.1;
     let class = row.2;
     Built::As(operation, class)

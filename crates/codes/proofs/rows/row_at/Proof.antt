@@ -1,37 +1,63 @@
--- `codes::rows::row_at` meets its contract: the table has the rows of the rules, by one test over the whole of it. Assumes nothing.
-use Prim.Native.Nat.{ℕ, zero, suc, _<_}
-use mathlib.Core.Path.{_≡_, refl}
-use mathlib.Core.List.{List, [], _∷_, map}
-use native.Mathlib.Nat.{le-of-suc-le-suc, not-suc-le-zero}
-use lib.ListN.{length, getD}
+-- `codes::rows::row_at` meets its contract: each arm is the row of the table with its number. Assumes nothing.
+use Prim.Native.Nat.{ℕ, _<_, _≤_}
+use mathlib.Core.Path.{_≡_, sym, ap}
+use native.Mathlib.Omega.{arith}
 use Rattle.rules.specs.Bytes.{bytes}
-use Rattle.rules.specs.Codes
 use Rattle.rules.specs.Codes.{codes}
-use Rattle.rules.specs.declared.Built.the-variants.{As}
 use Rattle.codes.specs.Rows.{codeAt, nameAt, rowBuilt}
-use Rattle.codes.specs.declared.rows.Row.{Row}
-use borrow.Author.Needs.{needs}
+use Rattle.codes.proofs.Found.{past}
 use Rattle.codes.proofs.rows.row_at.Statement.{statement}
 use Rattle.codes.proofs.rows.row_at.Tie as tie
 
--- a row of the rules as the table has it
-abbrev shown : Codes.Row → Row
-shown r = record { 0 = r .code; 1 = r .operation; 2 = r .class; 3 = r .name }
+-- the row is the nth
+arm : (n : ℕ) {i : ℕ} → i ≡ n → (codeAt n codes ≡ codeAt i codes) × (rowBuilt n codes ≡ rowBuilt i codes) × (nameAt n codes ≡ nameAt i codes)
+arm n e = (
+  ap (λ (i : ℕ). codeAt i codes) (sym e),
+  ap (λ (i : ℕ). rowBuilt i codes) (sym e),
+  ap (λ (i : ℕ). nameAt i codes) (sym e),
+)
 
--- what the contract says of a row
-abbrev IsRow : Row → ℕ → List Codes.Row → Type 0
-IsRow r i rs = (r .0 ≡ codeAt i rs) × (As (r .1) (r .2) ≡ rowBuilt i rs) × (r .3 ≡ nameAt i rs)
-
-entry : (rs : List Codes.Row) (i : ℕ) (d : Row) → i < length rs → IsRow (getD (map shown rs) i d) i rs
-entry [] i d l = absurd (not-suc-le-zero l)
-entry (r ∷ rs) zero d l = (refl, refl, refl)
-entry (r ∷ rs) (suc i) d l = entry rs i d (le-of-suc-le-suc l)
-
-returns : tie.Need-returns
-unfolding codes bytes
-returns c =
-    let start : tie.Start = search in
-    entry codes (start .args .i) _ (start .pre)
+last : (i : ℕ) → i < 36 → 35 ≤ i → i ≡ 35
+last i l g = omega arith
 
 pub row-at-spec : {M : Type 1} → statement M
-row-at-spec = tie.close (tie.spec (λ c. search needs) (λ c. search needs) returns)
+unfolding codes bytes
+row-at-spec =
+    tie.close
+    (tie.spec
+    (λ c. arm 0 (c .match .keys1))
+    (λ c. arm 1 (c .match .keys2))
+    (λ c. arm 2 (c .match .keys3))
+    (λ c. arm 3 (c .match .keys4))
+    (λ c. arm 4 (c .match .keys5))
+    (λ c. arm 5 (c .match .keys6))
+    (λ c. arm 6 (c .match .keys7))
+    (λ c. arm 7 (c .match .keys8))
+    (λ c. arm 8 (c .match .keys9))
+    (λ c. arm 9 (c .match .keys10))
+    (λ c. arm 10 (c .match .keys11))
+    (λ c. arm 11 (c .match .keys12))
+    (λ c. arm 12 (c .match .keys13))
+    (λ c. arm 13 (c .match .keys14))
+    (λ c. arm 14 (c .match .keys15))
+    (λ c. arm 15 (c .match .keys16))
+    (λ c. arm 16 (c .match .keys17))
+    (λ c. arm 17 (c .match .keys18))
+    (λ c. arm 18 (c .match .keys19))
+    (λ c. arm 19 (c .match .keys20))
+    (λ c. arm 20 (c .match .keys21))
+    (λ c. arm 21 (c .match .keys22))
+    (λ c. arm 22 (c .match .keys23))
+    (λ c. arm 23 (c .match .keys24))
+    (λ c. arm 24 (c .match .keys25))
+    (λ c. arm 25 (c .match .keys26))
+    (λ c. arm 26 (c .match .keys27))
+    (λ c. arm 27 (c .match .keys28))
+    (λ c. arm 28 (c .match .keys29))
+    (λ c. arm 29 (c .match .keys30))
+    (λ c. arm 30 (c .match .keys31))
+    (λ c. arm 31 (c .match .keys32))
+    (λ c. arm 32 (c .match .keys33))
+    (λ c. arm 33 (c .match .keys34))
+    (λ c. arm 34 (c .match .keys35))
+    (λ c. let start : tie.Start = search in arm 35 (last _ (start .pre) (past 35 _ (c .match .rest)))))
