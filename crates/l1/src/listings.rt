@@ -3,6 +3,8 @@ ghost use mathlib.Core.Path.{_≡_};
 ghost use Prim.Native.Nat.{_-_, _≤_};
 ghost use lib.ListN.{length, drop};
 ghost use lib.Seq.{paste};
+ghost use mathlib.Core.Bool.{true};
+ghost use Rattle.l1.specs.Parts.{mayBeCut, listedUpto};
 use crate::machines::hold;
 use crate::machines::is_held;
 use crate::sessions::empty_drum;
@@ -19,20 +21,29 @@ pub struct Listed {
     pub taken: usize,
 }
 
+// Whether so many bytes may be a card cut short.
+fn may_be_cut(left: usize, last: bool) -> bool
+    ensures { λ r. ⌜ r ≡ mayBeCut left last ⌝ }
+{
+    if last {
+        return false;
+    }
+    left < 77
+}
+
 // The lines of the cards at the start of a part. Where it is not the last of its file, a card that it may have cut short is left.
-fn list_cards(lines: &mut [u8], part: &[u8], is_last: bool) -> Listed
+fn list_cards(lines: &mut [u8], part: &[u8], last: bool) -> Listed
     ensures { λ r. ⌜ r .taken ≤ length (now (part .entry)) ⌝ }
+    ensures { λ r. ⌜ (r .sent ≡ true → r .taken ≡ listedUpto (length (now (part .entry))) (now (part .entry)) last 0) ⌝ }
 {
     let mut at: usize = 0;
     while at < part.len() {
         let left = part.len() - at;
-        if left < 77 {
-            if !is_last {
-                return Listed {
-                    sent: true,
-                    taken: at,
-                };
-            }
+        if may_be_cut(left, last) {
+            return Listed {
+                sent: true,
+                taken: at,
+            };
         }
         let x = list::write_lines(lines, &part[at..]);
         let n = x.written;
