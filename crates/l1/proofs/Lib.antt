@@ -1,3 +1,2 @@
 pub mod Rooms
 pub mod Sendings
-pub mod Parts

@@ -1,3 +1,2 @@
 pub mod Going
 pub mod New
-pub mod Parts

@@ -1,4 +1,4 @@
--- `l1::listings::list_cards` meets its contract, and ends: each turn takes a card. The loop's invariant: what is left to list comes to the
+-- `shows::cards::list_cards` meets its contract, and ends: each turn takes a card. The loop's invariant: what is left to list comes to the
 -- whole. Assumes nothing.
 use mathlib.Core.Path.{_≡_, refl, sym, ap, _∙_}
 use mathlib.Core.Bool.{true≢false}
@@ -9,10 +9,10 @@ use lib.Seq.{take-all}
 use borrow.Author.Needs.{needs}
 use Rattle.list.specs.Listing.{sizeOf}
 use Rattle.says.proofs.Answers.{line-within}
-use Rattle.l1.specs.Parts.{listedUpto}
-use Rattle.l1.proofs.Parts.{ends-behind, ends-cut, ends-none, ends-short, goes-on}
-use Rattle.l1.proofs.listings.list_cards.Statement.{statement}
-use Rattle.l1.proofs.listings.list_cards.Tie as tie
+use Rattle.shows.specs.Parts.{listedUpto}
+use Rattle.shows.proofs.Parts.{ends-behind, ends-cut, ends-none, ends-short, goes-on}
+use Rattle.shows.proofs.cards.list_cards.Statement.{statement}
+use Rattle.shows.proofs.cards.list_cards.Tie as tie
 
 abbrev Inv-loop : tie.InvT-loop
 Inv-loop lines₀ part last at₀ lines at =

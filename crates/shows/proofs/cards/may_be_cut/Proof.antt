@@ -1,10 +1,10 @@
--- `l1::listings::may_be_cut` meets its contract. Assumes nothing.
+-- `shows::cards::may_be_cut` meets its contract. Assumes nothing.
 use mathlib.Core.Path.{sym, ap}
 use mathlib.Core.Bool.{Bool}
-use Rattle.l1.specs.Parts.{mayBeCut}
+use Rattle.shows.specs.Parts.{mayBeCut}
 use borrow.Author.Needs.{needs}
-use Rattle.l1.proofs.listings.may_be_cut.Statement.{statement}
-use Rattle.l1.proofs.listings.may_be_cut.Tie as tie
+use Rattle.shows.proofs.cards.may_be_cut.Statement.{statement}
+use Rattle.shows.proofs.cards.may_be_cut.Tie as tie
 
 returns-2 : tie.Need-returns-2
 returns-2 c =

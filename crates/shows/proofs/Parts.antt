@@ -9,7 +9,7 @@ use lib.Dec.{leb, ltb}
 use lib.ListN.{length, drop}
 use Rattle.rules.specs.Words.{pick, both}
 use Rattle.list.specs.Listing.{sizeOf}
-use Rattle.l1.specs.Parts.{mayBeCut, isListed, listedUpto}
+use Rattle.shows.specs.Parts.{mayBeCut, isListed, listedUpto}
 
 cut-false : (a c : Bool) → both a (pick true false c) ≡ false
 cut-false true c = refl
