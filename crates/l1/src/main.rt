@@ -23,7 +23,7 @@ fn obey(command: Command, options: Options) {
         Command::Load => machines::load(&name[..n], options),
         Command::Run => machines::run(&name[..n], options),
         Command::Deck => telling::check_deck(&name[..n]),
-        Command::List => listings::list(&name[..n]),
+        Command::List => shows::list(&name[..n]),
         Command::Cells => listings::cells(&name[..n]),
         Command::Unknown => says::help(),
     }

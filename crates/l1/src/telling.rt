@@ -7,34 +7,18 @@ ghost use Rattle.rules.specs.Drum.{view};
 ghost use Rattle.rules.specs.Sheet.{closing};
 ghost use Rattle.list.specs.Marked.{markedLines};
 ghost use Rattle.says.specs.Told.{mayClose};
-use libc::STDOUT_FILENO;
 use machine::Ran;
 use rules::Bar;
 use rules::Deck;
 use rules::Ending;
 use rules::State;
-
-// Bytes as they are. Where they cannot be written, that is said.
-fn send(bytes: &[u8]) -> bool {
-    if io::write_all(STDOUT_FILENO, bytes) {
-        return true;
-    }
-    says::failed(b"standard output");
-    false
-}
-
-// The first n bytes of a room.
-pub fn send_first(room: &[u8], n: usize) -> bool
-    requires { ⌜ n ≤ length (now room) ⌝ }
-{
-    send(&room[0..n])
-}
+use shows::send;
 
 // The first n bytes of a room, which are the cards of a run in it.
 pub fn send_cards(room: &[u8], n: usize, ran: Ran) -> bool
     requires { ⌜ (n ≡ ran .written) × (n ≤ length (now room)) ⌝ }
 {
-    send_first(room, n)
+    send(&room[0..n])
 }
 
 // Bytes that are the closing of such a call.

@@ -1,4 +1,4 @@
--- `l1::listings::move_down` meets its contract. The loop's invariant: the bytes passed stand at the start, and all behind them is as it
+-- `shows::cards::move_down` meets its contract. The loop's invariant: the bytes passed stand at the start, and all behind them is as it
 -- was, so that the byte to move is still the old one. Assumes nothing.
 use mathlib.Core.Path.{_≡_, refl, sym, ap, _∙_}
 use mathlib.Core.List.{List}
@@ -9,8 +9,8 @@ use lib.ListN.{length, getD, drop, set, length-set, length-drop}
 use lib.Seq.{paste, paste-zero, drop-paste, getD-drop}
 use Rattle.bytes.proofs.Copies.{copy-more}
 use borrow.Author.Needs.{needs}
-use Rattle.l1.proofs.listings.move_down.Statement.{statement}
-use Rattle.l1.proofs.listings.move_down.Tie as tie
+use Rattle.shows.proofs.cards.move_down.Statement.{statement}
+use Rattle.shows.proofs.cards.move_down.Tie as tie
 
 -- what stands behind the bytes passed is the old
 kept : (old room : List ℕ) (from i : ℕ) → i ≤ length (drop from old) → room ≡ paste old 0 (drop from old) i → getD room (from + i) 0 ≡ getD (drop from old) i 0

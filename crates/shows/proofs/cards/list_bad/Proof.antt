@@ -1,8 +1,8 @@
--- `l1::listings::list_bad` is safe: a line lies within its room. Assumes nothing.
+-- `shows::cards::list_bad` is safe: a line lies within its room. Assumes nothing.
 use borrow.Author.Needs.{needs}
 use Rattle.says.proofs.Answers.{line-within}
-use Rattle.l1.proofs.listings.list_bad.Statement.{statement}
-use Rattle.l1.proofs.listings.list_bad.Tie as tie
+use Rattle.shows.proofs.cards.list_bad.Statement.{statement}
+use Rattle.shows.proofs.cards.list_bad.Tie as tie
 
 send-first-requires : tie.Need-send-first-requires
 send-first-requires c κs = line-within _ _ _ _ (c .before .before .write-bad .ensures)

@@ -1,11 +1,11 @@
--- `l1::listings::list_all` ends: it counts its turns down. Assumes nothing.
+-- `shows::cards::list_all` ends: it counts its turns down. Assumes nothing.
 use mathlib.Core.Path.{_≡_}
 use Prim.Native.Nat.{_≤_}
 use native.Mathlib.Omega.{arith}
 use lib.ListN.{length}
 use borrow.Author.Needs.{needs}
-use Rattle.l1.proofs.listings.list_all.Statement.{statement}
-use Rattle.l1.proofs.listings.list_all.Tie as tie
+use Rattle.shows.proofs.cards.list_all.Statement.{statement}
+use Rattle.shows.proofs.cards.list_all.Tie as tie
 
 abbrev Inv-loop : tie.InvT-loop
 Inv-loop room₀ lines₀ path fd window₀ turns₀ room lines window turns = (length room ≡ 65536) × (window .kept ≤ 65536) × (length room ≡ length room₀) × (length lines ≡ length lines₀)
