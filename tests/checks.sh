@@ -35,6 +35,9 @@ compare() {
     target/second "$2" "$seed" "$3" /dev/stdout | run_c "$1${face:-}" "$2" | target/second "judge-$2" "$seed" "$3" /dev/stdin
 }
 
+# guards: the driver tells each touch of what it has put around the buffers that it lends.
+guards() { run_c "driver${face:-}" guards | grep '^guards: '; }
+
 # second_tests: the tests that the second program has of itself, and that there are some.
 second_tests() {
     target/second-tests >"$made/second-tests.out" || { cat "$made/second-tests.out" && return 1; }

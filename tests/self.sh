@@ -58,7 +58,8 @@ for stub in idle refusing silent; do
     fails "table, $stub" table
     fails "front, $stub" front
     fails "recorded, $stub" recorded
-    for kind in numbers decks sessions; do fails "$kind, $stub" no_difference "$kind"; done
+    [ "$stub" != silent ] || fails "guards, $stub" guards
+    for kind in numbers decks codes sessions; do fails "$kind, $stub" no_difference "$kind"; done
 done
 echo "self: $tried checks tried with what does not work, $blind do not see it"
 [ "$blind" -eq 0 ]

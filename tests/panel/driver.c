@@ -364,6 +364,9 @@ static void guards(void)
             quit("driver: a deck that was changed is not told\n");
         deck.at[i] ^= 1;
     }
+    static const char told[] = "guards: each place that no call may touch was touched, and told\n";
+    memcpy(out, told, sizeof told - 1);
+    out_end = sizeof told - 1;
 }
 
 int main(int words, char **word)

@@ -29,7 +29,7 @@ pub fn parts_of(w: u64) -> Parts
     Parts {
         key: (w / 1_000_000 % 10_000) as usize,
         b: (low / 1000) as usize,
-        c: (low % 1000) as usize,
+        c: (w % 1000) as usize,
     }
 }
 
