@@ -8,18 +8,29 @@ expected() {
     done | diff tests/expected - && awk '{ n += $2 } END { print "expected: " NR " crates, " n " wrong programs" }' tests/expected
 }
 
-# proofs: rt ci, which counts for itself: as many as tests/expected has crates and wrong programs. Sets proved and unproved. rt removes
-# target/, so what it says is kept elsewhere until it is read.
+# proofs: rt prove, from nothing: as many crates as tests/expected has. Sets proved and unproved. rt removes target/, so what it says is kept
+# elsewhere until it is read.
 proofs() {
     scratch=$(mktemp -d) || exit 2
-    { rt ci 2>&1; echo $? >"$scratch/status"; } | tee "$scratch/said"
+    { rt prove 2>&1; echo $? >"$scratch/status"; } | tee "$scratch/said"
     status=$(cat "$scratch/status")
-    counts=$(sed -n '$s/^\([0-9]*\) passed, \([0-9]*\) failed$/\1 \2/p' "$scratch/said")
+    proved=$(sed -n '$s/^rt: ok, \([0-9]*\) crates proved.*/\1/p' "$scratch/said")
+    unproved=$(grep -c 'NOT PROVED' "$scratch/said")
     rm -r "$scratch"
-    proved=${counts% *} unproved=${counts#* }
-    proved=${proved:-0} unproved=${unproved:-0}
-    [ "$status" -eq 0 ] && [ "$unproved" -eq 0 ] && [ "$proved" -eq "$(awk '{ n += 1 + $2 } END { print n }' tests/expected)" ] && return
+    proved=${proved:-0}
+    [ "$status" -eq 0 ] && [ "$unproved" -eq 0 ] && [ "$proved" -eq "$(grep -c . tests/expected)" ] && return
     [ "$unproved" -gt 0 ] || unproved=1
+    return 1
+}
+
+# wrong_programs: as many are refused as tests/expected has, and all. Sets refused and survived.
+wrong_programs() {
+    tests/wrong.sh | tee "$made/wrong.out"
+    counts=$(sed -n '$s/^wrong: \([0-9]*\) refused, \([0-9]*\) not$/\1 \2/p' "$made/wrong.out")
+    refused=${counts% *} survived=${counts#* }
+    refused=${refused:-0} survived=${survived:-0}
+    [ "$survived" -eq 0 ] && [ "$refused" -eq "$(awk '{ n += $2 } END { print n }' tests/expected)" ] && return
+    [ "$survived" -gt 0 ] || survived=1
     return 1
 }
 

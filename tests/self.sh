@@ -18,9 +18,10 @@ fails() {
     echo "self: $what: the check does well"
 }
 
-# with_rt COMMAND: the command with an rt that ends well and counts nothing.
+# with_rt COMMAND: the command with an rt that ends well and does nothing.
 with_rt() (
-    rt() { :; }
+    mkdir -p "$made/idle" && cp tests/self/nothing "$made/idle/rt" || exit 2
+    export PATH="$(cd "$made/idle" && pwd -P):$PATH" L1_LOGS="$(pwd -P)/target/wrong-logs"
     "$1"
 )
 
@@ -37,7 +38,8 @@ no_difference() {
     ! grep -q "^$1: 500 .*, [1-9][0-9]* differences" "$made/judge.log"
 }
 
-fails 'rt ci says nothing' with_rt proofs
+fails 'rt proves nothing' with_rt proofs
+fails 'rt refuses nothing' with_rt wrong_programs
 fails 'a wrong program is lost' with_edit_lost expected
 for program in nothing refuses refuses-work; do
     export L1_PROGRAM="$PWD/tests/self/$program"
