@@ -13,7 +13,7 @@ fails() {
     what=$1
     shift
     tried=$((tried + 1))
-    ("$@") >"$made/self.log" 2>&1 || return 0
+    ("$@") >"$made/self-tried.log" 2>&1 || return 0
     blind=$((blind + 1))
     echo "self: $what: the check does well"
 }
