@@ -85,6 +85,7 @@ answers() {
     sed 's/^0 /18446744073709551615 /' cells.text >largest.text
     sed 's/^0 /-1 /' cells.text >minus.text
     head -c 262145 /dev/zero | tr '\0' ' ' >spaces.text
+    { cat cells.text; head -c 262144 /dev/zero | tr '\0' ' '; } | head -c 262144 >padded.text
     head -c 65536 /dev/zero | tr '\0' 7 >full.deck
     head -c 65537 /dev/zero | tr '\0' 7 >over.deck
     head -c 9071 /dev/zero >small.machine
