@@ -13,7 +13,9 @@ returns-2 : tie.Need-returns-2
 returns-2 c = rw (c .before .enum-told2 .given .1) (c .with-stop .ensures)
 
 returns-3 : tie.Need-returns-3
-returns-3 c = rw (c .before .before .asked .given .1) (c .with-budget .ensures)
+returns-3 c =
+    let word : tie.After-asked = search in
+    rw (word .asked .given .1) (c .with-budget .ensures)
 
 pub with-word-spec : {M : Type 1} → statement M
 with-word-spec =

@@ -10,7 +10,11 @@ returns : tie.Need-returns
 returns c = rw (eq-eqb (c .before .args .count) 0 (c .if1 .taken))
 
 returns-2 : tie.Need-returns-2
-returns-2 c = rw (ne-eqb (c .before .before .before .args .count) 0 (c .before .before .if1 .left)) (ap₂ eqb (c .before .ending-number .ensures) (c .refusal-number .ensures))
+returns-2 c =
+    let start : tie.Start = search in
+    let test : tie.Else1 = search in
+    let ending : tie.After-ending-number = search in
+    rw (ne-eqb (start .args .count) 0 (test .if1 .left)) (ap₂ eqb (ending .ending-number .ensures) (c .refusal-number .ensures))
 
 pub may-refill-spec : {M : Type 1} → statement M
 may-refill-spec =

@@ -39,7 +39,8 @@ loop-less c = omega arith
 loop-again : tie.Need-loop-again Inv-loop μ-loop
 loop-again c =
     let l = c .before .loop in
-    let n = c .before .before .numbers-of .result in (
+    let numbers : tie.After-numbers-of Inv-loop μ-loop = search in
+    let n = numbers .numbers-of .result in (
       omega arith,
       simp length-set (omega arith),
       rw (add-one, take-suc-set (l .row) (l .i) _ (omega arith), take-suc n (l .i) 0 (omega arith), l .inv .2),

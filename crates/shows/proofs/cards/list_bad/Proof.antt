@@ -5,7 +5,9 @@ use Rattle.shows.proofs.cards.list_bad.Statement.{statement}
 use Rattle.shows.proofs.cards.list_bad.Tie as tie
 
 send-first-requires : tie.Need-send-first-requires
-send-first-requires c κs = line-within _ _ _ _ (c .before .before .write-bad .ensures)
+send-first-requires c κs =
+    let line : tie.After-write-bad = search in
+    line-within _ _ _ _ (line .write-bad .ensures)
 
 pub list-bad-spec : {M : Type 1} → statement M
 list-bad-spec =
