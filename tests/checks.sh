@@ -51,8 +51,14 @@ guards() { run_c "driver${face:-}" guards | grep '^guards: '; }
 
 # second_tests: the tests that the second program has of itself, and that there are some.
 second_tests() {
-    target/second-tests >"$made/second-tests.out" || { cat "$made/second-tests.out" && return 1; }
+    "${L1_SECOND_TESTS:-target/second-tests}" >"$made/second-tests.out" || { cat "$made/second-tests.out" && return 1; }
     grep '^test result: ok. [1-9][0-9]* passed; 0 failed' "$made/second-tests.out"
+}
+
+# second_self: the second program's trial of its own judges, and that it says so.
+second_self() {
+    "${L1_SECOND:-target/second}" self 2000 "$seed" >"$made/second-self.out" 2>&1 || { cat "$made/second-self.out" && return 1; }
+    grep '^self: all as it must be' "$made/second-self.out"
 }
 
 # door: ./l1 itself, from another folder and by a link.

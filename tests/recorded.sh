@@ -6,7 +6,7 @@ listings() {
     count=0 wrong=0
     for listing in examples/*.txt tests/sessions/*.txt; do
         count=$((count + 1))
-        examples/keypunch "$listing" | cmp - "${listing%.txt}.deck" || wrong=$((wrong + 1))
+        "${L1_KEYPUNCH:-examples/keypunch}" "$listing" | cmp - "${listing%.txt}.deck" || wrong=$((wrong + 1))
     done
     for file in examples/*.deck tests/sessions/*.deck; do
         [ -f "${file%.deck}.txt" ] || { echo "$file has no listing" && wrong=$((wrong + 1)); }

@@ -32,15 +32,26 @@ with_edit_lost() (
     cd "$made/lost" && "$1"
 )
 
-# no_difference KIND: the judge counts none on a few cases; that they are too few to reach everything is not what is asked.
+# with_other NAME PROGRAM COMMAND: the command with that program where the variable NAME says which.
+with_other() (
+    export "$1=$2"
+    "$3"
+)
+
+# no_difference DRIVER KIND: the judge counts none on a few cases; that they are too few to reach everything is not what is asked.
 no_difference() {
-    compare driver "$1" 500 >"$made/judge.log" 2>&1
-    ! grep -q "^$1: 500 .*, [1-9][0-9]* differences" "$made/judge.log"
+    compare "$1" "$2" 500 >"$made/judge.log" 2>&1
+    ! grep -q "^$2: 500 .*, [1-9][0-9]* differences" "$made/judge.log"
 }
 
 fails 'rt proves nothing' with_rt proofs
 fails 'rt refuses nothing' with_rt wrong_programs
 fails 'a wrong program is lost' with_edit_lost expected
+for program in tests/self/nothing tests/self/refuses; do
+    fails "listings, $program" with_other L1_KEYPUNCH "$program" listings
+    fails "second-tests, $program" with_other L1_SECOND_TESTS "$program" second_tests
+    fails "second-self, $program" with_other L1_SECOND "$program" second_self
+done
 for program in nothing refuses refuses-work; do
     export L1_PROGRAM="$PWD/tests/self/$program"
     for part in answers rooms foreign refused modes order stopped killed; do fails "tool-$part, $program" tests/tool.sh "$part"; done
@@ -61,7 +72,9 @@ for stub in idle refusing silent; do
     fails "front, $stub" front
     fails "recorded, $stub" recorded
     [ "$stub" != silent ] || fails "guards, $stub" guards
-    for kind in numbers decks codes sessions; do fails "$kind, $stub" no_difference "$kind"; done
+    for kind in numbers decks codes sessions; do fails "$kind, $stub" no_difference driver "$kind"; done
 done
+build_c judged-silent panel tests/self/silent.c || exit 2
+fails 'yardstick, silent' no_difference judged sessions
 echo "self: $tried checks tried with what does not work, $blind do not see it"
 [ "$blind" -eq 0 ]
