@@ -16,7 +16,7 @@ use Rattle.rules.specs.declared.State.{State}
 use Rattle.rules.specs.declared.Switches.{Switches}
 use Rattle.rules.proofs.Views.{length-overlay, Fit, fit, marks-again, Grows, store-grows, overlay-kept}
 use Rattle.rules.proofs.Growth.{cards-grow, run-grows}
-use Rattle.promises.specs.Calls.{Call, load, run, loadOf, runOf, startOf, Told, Called, called, afterLoad, afterRun, history}
+use Rattle.promises.specs.Calls.{Call, load, run, make, loadOf, runOf, startOf, Told, Called, called, afterLoad, afterRun, history}
 use Rattle.promises.specs.Foreign.{ForeignKept, LengthKept}
 
 -- one call from drum and marks: what it leaves unmarked was unmarked, and is kept; the drum is as long as it was
@@ -78,6 +78,7 @@ module _ (drum marks : List ℕ) where
   call-kept : (c : Call) (s : State) → Kept drum marks (called c drum marks s)
   call-kept (load st deck t) s = load-kept deck (startOf st s) t
   call-kept (run st deck out n t) s = run-kept deck out (startOf st s) n t
+  call-kept (make out order posed) s = nothing-done drum marks _ refl
 
 pub foreign-kept : ForeignKept
 unfolding history

@@ -11,6 +11,7 @@ use Rattle.rules.specs.Drum.{cellOf, view, markOf, marksOf, numberOver, overlay
 use Rattle.rules.specs.Decks.{deckOf}
 use Rattle.rules.specs.Running.{begun, inputs, runFrom, stateFits, ranAs, ranOn, ran}
 use Rattle.rules.specs.Loads.{cellsLoaded, loadedFrom, loaded}
+use Rattle.rules.specs.Making.{MakeResult, madeOf, made}
 use Rattle.rules.specs.declared.Cell.{Cell}
 use Rattle.rules.specs.declared.Cell.the-variants.{Foreign, Owned}
 use Rattle.rules.specs.declared.Deck.{Deck}
@@ -18,7 +19,7 @@ use Rattle.rules.specs.declared.Deck.the-variants.{Good, Faulty}
 use Rattle.rules.specs.declared.State.{State}
 use Rattle.rules.specs.declared.Switches.{Switches}
 use Rattle.rules.proofs.Views.{length-overlay}
-use Rattle.promises.specs.Calls.{Call, load, run, loadOf, runOf, startOf, Told, Called, called, afterLoad, afterRun, history}
+use Rattle.promises.specs.Calls.{Call, load, run, make, loadOf, runOf, makeOf, startOf, problemOf, Told, Called, called, afterLoad, afterRun, afterMake, history}
 use Rattle.promises.specs.Foreign.{Alike, SameFor, ForeignUnseen}
 
 -- ---- drums that are alike have one view
@@ -114,9 +115,20 @@ module _ (drum₁ drum₂ marks : List ℕ) (h : Alike drum₁ drum₂ marks) wh
       by-fit true e = rw (fits-same, e) (run-from deck out s n t (deckOf deck))
       by-fit false e = rw (fits-same, e) (unchanged _ refl)
 
+  -- a deck is made of the view alone, and drum and marks are left as they are
+  make-same : (out : List ℕ) (order problem : ℕ) → made (makeOf drum₁ marks out order problem) ≡ made (makeOf drum₂ marks out order problem)
+  unfolding made madeOf
+  make-same out order problem = rw (h .long, one-view)
+
+  make-both : (out : List ℕ) (order problem : ℕ) (s : State)
+      → Matched (afterMake drum₁ marks s (made (makeOf drum₁ marks out order problem))) (afterMake drum₂ marks s (made (makeOf drum₂ marks out order problem)))
+  make-both out order problem s =
+      record { told-same = ap (λ (x : MakeResult). afterMake drum₁ marks s x .told) (make-same out order problem); alike = h }
+
   one-call : (c : Call) (s : State) → Matched (called c drum₁ marks s) (called c drum₂ marks s)
   one-call (load st deck t) s = load-both deck (startOf st s) t
   one-call (run st deck out n t) s = run-both deck out (startOf st s) n t
+  one-call (make out order posed) s = make-both out order (problemOf posed s) s
 
 -- ---- any list of calls
 

@@ -10,3 +10,4 @@ pub mod Cards
 pub mod Worked
 pub mod Again
 pub mod Rooms
+pub mod Making

@@ -12,5 +12,6 @@ pub mod Machine
 pub mod Orders
 pub mod Running
 pub mod Loads
+pub mod Making
 pub mod Sheet
 pub mod States

@@ -23,6 +23,8 @@ use Rattle.rules.specs.declared.Ending.{Ending}
 use Rattle.rules.specs.declared.Ending.the-variants.{Ran, NotRun}
 use Rattle.rules.specs.declared.Loading.{Loading}
 use Rattle.rules.specs.declared.Loading.the-variants.{Loaded, NotLoaded}
+use Rattle.rules.specs.declared.Making.{Making}
+use Rattle.rules.specs.declared.Making.the-variants.{Made, UnfitDrum, UnfitNumber, Full}
 
 -- why an order is undone
 abbrev pub refusalNumber : Refusal → ℕ
@@ -147,3 +149,16 @@ loadingNumber (NotLoaded b) = barNumber b
 abbrev pub loadingPlace : Loading → ℕ
 loadingPlace Loaded = 0
 loadingPlace (NotLoaded b) = barPlace b
+
+-- a call of make: 0 and the bytes of the deck, or the number and 0
+abbrev pub makingNumber : Making → ℕ
+makingNumber (Made n) = 0
+makingNumber UnfitDrum = 10
+makingNumber UnfitNumber = 12
+makingNumber Full = 22
+
+abbrev pub makingWritten : Making → ℕ
+makingWritten (Made n) = n
+makingWritten UnfitDrum = 0
+makingWritten UnfitNumber = 0
+makingWritten Full = 0

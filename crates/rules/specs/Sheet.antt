@@ -3,15 +3,18 @@
 use Prim.Native.Nat.{ℕ}
 use mathlib.Core.List.{List, [], _++_}
 use lib.ListN.{take}
-use Rattle.rules.specs.Numbers.{outcomeNumber, outcomeShown, barNumber, barPlace}
+use Rattle.rules.specs.Numbers.{outcomeNumber, outcomeShown, barNumber, barPlace, makingNumber}
 use Rattle.rules.specs.Cards.{stopCard, refusalLine}
 use Rattle.rules.specs.Running.{RunResult}
+use Rattle.rules.specs.Making.{MakeResult}
 use Rattle.rules.specs.declared.State.{State}
 use Rattle.rules.specs.declared.Bar.{Bar}
 use Rattle.rules.specs.declared.Ending.{Ending}
 use Rattle.rules.specs.declared.Ending.the-variants.{Ran, NotRun}
 use Rattle.rules.specs.declared.Loading.{Loading}
 use Rattle.rules.specs.declared.Loading.the-variants.{Loaded, NotLoaded}
+use Rattle.rules.specs.declared.Making.{Making}
+use Rattle.rules.specs.declared.Making.the-variants.{Made, UnfitDrum, UnfitNumber, Full}
 
 abbrev pub barLine : Bar → List ℕ
 barLine b = refusalLine (barNumber b) (barPlace b)
@@ -28,3 +31,13 @@ sheet r = take (r .written) (r .out) ++ closing (r .ending) (r .state) (r .count
 abbrev pub loadLine : Loading → List ℕ
 loadLine Loaded = []
 loadLine (NotLoaded b) = barLine b
+
+-- of a call of make: the bytes of the deck, or the number and 0
+abbrev pub makeLine : Making → List ℕ → List ℕ
+makeLine (Made n) out = take n out
+makeLine UnfitDrum out = refusalLine (makingNumber UnfitDrum) 0
+makeLine UnfitNumber out = refusalLine (makingNumber UnfitNumber) 0
+makeLine Full out = refusalLine (makingNumber Full) 0
+
+abbrev pub makeSheet : MakeResult → List ℕ
+makeSheet r = makeLine (r .making) (r .out)

@@ -207,3 +207,11 @@ pub enum Loading {
     Loaded,
     NotLoaded(Bar),
 }
+
+// How a call of make ended: with a deck of so many bytes, or with none and why.
+pub enum Making {
+    Made(usize),
+    UnfitDrum,
+    UnfitNumber,
+    Full,
+}
