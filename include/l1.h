@@ -95,6 +95,23 @@ struct l1_ended {
 struct l1_ended l1_run(uint64_t *drum, size_t cells, uint8_t *marks, size_t marks_len, const uint8_t *deck, size_t deck_len,
                        uint8_t *out, size_t room, uint64_t *state, size_t state_len, uint64_t budget, uint64_t stop);
 
+/* What the making of a deck answers. */
+struct l1_made {
+    uint64_t number;  /* 0 for a deck that is made; 10, 12 or 22 where nothing is written */
+    uint64_t written; /* how many bytes at the start of the output are the deck, 0 with a refusal; the bytes past them are as before */
+};
+
+/* Makes a deck of a drum: the marked cells 001 to 999 in ascending order, each run of neighbours on cards of five words with the rest on
+ * the last, the cards numbered from 0001, and behind them the first-order card with the location first; all bear the problem number.
+ * Loaded on a drum with all marks 0, the deck gives the same marks and the same marked words, 000 aside. It goes to the room bytes at
+ * out, and takes 13,196 bytes at most. Drum and marks are only read; the cell at first need not be marked. Answers 0 and the deck's
+ * length when that is done. Else nothing is written, and the answer is 0 bytes and the first of
+ *   10: as for l1_load;
+ *   12: first is 0 or above 999, or problem is above 999;
+ *   22: the deck does not fit the room. */
+struct l1_made l1_make(const uint64_t *drum, size_t cells, const uint8_t *marks, size_t marks_len, uint8_t *out, size_t room,
+                       uint64_t first, uint64_t problem);
+
 #ifdef __cplusplus
 }
 #endif

@@ -44,6 +44,16 @@ no_difference() {
     ! grep -q "^$2: 500 .*, [1-9][0-9]* differences" "$made/judge.log"
 }
 
+# with_fault FAULT: the same of makings by tests/self/makes.c, with one fault, or with none where it is empty.
+with_fault() (
+    export L1_FAULT="$1"
+    face=-makes
+    no_difference driver makes
+)
+
+# without_fault: what with_fault sees is the fault.
+without_fault() { ! with_fault ''; }
+
 fails 'rt proves nothing' with_rt proofs
 fails 'rt refuses nothing' with_rt wrong_programs
 fails 'a wrong program is lost' with_edit_lost expected
@@ -72,7 +82,16 @@ for stub in idle refusing silent; do
     fails "front, $stub" front
     fails "recorded, $stub" recorded
     [ "$stub" != silent ] || fails "guards, $stub" guards
-    for kind in numbers decks codes sessions; do fails "$kind, $stub" no_difference driver "$kind"; done
+    for kind in numbers decks codes sessions makes; do fails "$kind, $stub" no_difference driver "$kind"; done
+done
+build_c driver-makes panel tests/self/makes.c || exit 2
+fails 'makes, no fault' without_fault
+for fault in numbered-from-0 card-numbers-of-a-byte with-000 without-999 rest-first cards-of-four unmarked-let-in no-minus-zero \
+    problem-on-the-last-card-alone first-order-card-not-told byte-past-the-deck drum-changed marks-changed unmarked-judged largest-word \
+    000-not-judged any-mark any-number long-drum long-marks first-0 first-1000 first-of-16-bits first-of-32-bits first-marked \
+    problem-1000 problem-of-16-bits problem-of-32-bits 12-before-10 22-before-10 22-before-12 room-to-spare length-told-with-22 \
+    written-then-refused; do
+    fails "makes, $fault" with_fault "$fault"
 done
 build_c judged-silent panel tests/self/silent.c || exit 2
 fails 'yardstick, silent' no_difference judged sessions

@@ -1,5 +1,6 @@
 /* A table of calls of the C face with what the paper says of each: P1 to P10 of its table, the turns of its rules, decks, the paper's
- * session, and calls that are refused at their entry. Writes a line for each wrong answer, and a last line with the counts. */
+ * session, calls that are refused at their entry, and decks made of drums. Writes a line for each wrong answer, and a last line with the
+ * counts. */
 #include "l1.h"
 
 int printf(const char *format, ...);
@@ -345,6 +346,159 @@ static void refusals(void)
     expect_untouched("a mark of 2", 6);
 }
 
+/* ---- decks made of drums. */
+
+#define ALL 13196
+
+static uint64_t drum_before[CELLS + 1];
+static uint8_t marks_before[CELLS + 1], made[ALL + 1];
+
+/* Marks the cells from one to another; each holds its own location as its digits. */
+static void own(size_t from, size_t to)
+{
+    size_t i;
+    for (i = from; i <= to; i++) {
+        drum[i] = i;
+        marks[i] = 1;
+    }
+}
+
+/* Makes a deck in room bytes, and sees that drum and marks stay, as do the bytes behind the deck. */
+static struct l1_made make(const char *what, size_t cells, size_t marks_len, size_t room, uint64_t first, uint64_t problem)
+{
+    size_t i, changed = 0;
+    struct l1_made r;
+
+    for (i = 0; i <= CELLS; i++) {
+        drum_before[i] = drum[i];
+        marks_before[i] = marks[i];
+    }
+    for (i = 0; i <= ALL; i++)
+        made[i] = UNTOUCHED;
+    r = l1_make(drum, cells, marks, marks_len, made, room, first, problem);
+    for (i = 0; i <= CELLS; i++)
+        changed += drum[i] != drum_before[i] || marks[i] != marks_before[i];
+    for (i = r.written; i <= ALL; i++)
+        changed += made[i] != UNTOUCHED;
+    expect(what, 0, changed, 0, 0);
+    return r;
+}
+
+/* The deck with first order 101 and problem number 7: it just fits its room, and does not fit a byte less. */
+static void expect_made(const char *what, const char *deck)
+{
+    size_t i, n = length(deck), same = 0;
+    struct l1_made r = make(what, CELLS, CELLS, n, 101, 7);
+
+    expect(what, r.number, r.written, 0, n);
+    for (i = 0; i < n; i++)
+        same += made[i] == (uint8_t)deck[i];
+    expect(what, 0, same, 0, n);
+    r = make(what, CELLS, CELLS, n - 1, 101, 7);
+    expect(what, r.number, r.written, 22, 0);
+}
+
+/* That the deck made last, before the untouched bytes, ends with a text. */
+static void expect_end(const char *what, const char *text)
+{
+    size_t i, n = length(text), end = ALL + 1, same = 0;
+    while (end > n && made[end - 1] == UNTOUCHED)
+        end--;
+    for (i = 0; i < n; i++)
+        same += made[end - n + i] == (uint8_t)text[i];
+    expect(what, 0, same, 0, n);
+}
+
+static void makes(void)
+{
+    static const struct {
+        const char *what;
+        size_t from, to, then_from, then_to;
+        const char *deck;
+    } all[] = {
+        {"no cell", 1, 0, 1, 0, "T101007"},
+        {"cell 000 alone", 0, 0, 1, 0, "T101007"},
+        {"cell 999 alone", 999, 999, 1, 0, "10001999+0000000999007T101007"},
+        {"cells 000 to 004", 0, 4, 1, 0, "40001001+0000000001+0000000002+0000000003+0000000004007T101007"},
+        {"five cells at both ends", 1, 5, 995, 999,
+         "50001001+0000000001+0000000002+0000000003+0000000004+0000000005007"
+         "50002995+0000000995+0000000996+0000000997+0000000998+0000000999007T101007"},
+        {"six cells at both ends", 1, 6, 994, 999,
+         "50001001+0000000001+0000000002+0000000003+0000000004+0000000005007" "10002006+0000000006007"
+         "50003994+0000000994+0000000995+0000000996+0000000997+0000000998007" "10004999+0000000999007T101007"},
+        {"a gap of one cell", 500, 501, 503, 503, "20001500+0000000500+0000000501007" "10002503+0000000503007T101007"},
+    };
+    static const struct {
+        const char *what;
+        size_t cells, marks_len, room;
+        uint64_t first, problem, number;
+    } refused[] = {
+        {"a short drum, and all else wrong", CELLS - 1, CELLS, 0, 0, 1000, 10},
+        {"a long drum", CELLS + 1, CELLS, ALL, 101, 7, 10},
+        {"no drum", 0, CELLS, ALL, 101, 7, 10},
+        {"short marks", CELLS, CELLS - 1, ALL, 101, 7, 10},
+        {"long marks", CELLS, CELLS + 1, ALL, 101, 7, 10},
+        {"first order 000, and no room", CELLS, CELLS, 0, 0, 7, 12},
+        {"first order 1000", CELLS, CELLS, ALL, 1000, 7, 12},
+        {"a first order of more than 32 bits", CELLS, CELLS, ALL, 4294967397ul, 7, 12},
+        {"the largest first order", CELLS, CELLS, ALL, FOREIGN, 7, 12},
+        {"problem number 1000", CELLS, CELLS, ALL, 101, 1000, 12},
+        {"the largest problem number", CELLS, CELLS, 0, 101, FOREIGN, 12},
+        {"no room", CELLS, CELLS, 0, 101, 7, 22},
+        {"a byte too few", CELLS, CELLS, 28, 999, 999, 22},
+    };
+    struct l1_made r;
+    size_t i;
+
+    for (i = 0; i < COUNT(all); i++) {
+        clear();
+        own(all[i].from, all[i].to);
+        own(all[i].then_from, all[i].then_to);
+        expect_made(all[i].what, all[i].deck);
+    }
+    for (i = 0; i < COUNT(refused); i++) {
+        clear();
+        own(5, 5);
+        r = make(refused[i].what, refused[i].cells, refused[i].marks_len, refused[i].room, refused[i].first, refused[i].problem);
+        expect(refused[i].what, r.number, r.written, refused[i].number, 0);
+    }
+    clear();
+    load(session, CELLS, STATE, 0);
+    expect_made("the paper's deck comes back", session);
+    run(session, CELLS, STATE, ROOM, 999999, 1);
+    expect_made("the drum behind the paper's session", "30001101+1200201202+0410202202+0000202000007"
+                "30002200+1000000050+2000000050+3000000050007T101007");
+    clear();
+    own(1, 5);
+    drum[1] = MINUS;
+    drum[2] = 19999999999ul;
+    drum[3] = 9999999999ul;
+    drum[4] = MINUS + 999999999;
+    drum[5] = 0;
+    expect_made("words that are no numbers", "50001001-0000000000-9999999999+9999999999-0999999999+0000000000007T101007");
+    drum[4] = 20000000000ul;
+    r = make("above the largest word", CELLS, CELLS, ALL, 101, 7);
+    expect("above the largest word", r.number, r.written, 10, 0);
+    clear();
+    own(1, 999);
+    r = make("all cells", CELLS, CELLS, ALL + 1, 1, 0);
+    expect("all cells", r.number, r.written, 0, ALL);
+    expect_end("all cells", "40200996+0000000996+0000000997+0000000998+0000000999000T001000");
+    for (i = 2; i < CELLS; i += 2)
+        marks[i] = 0;
+    r = make("every second cell", CELLS, CELLS, ALL, 999, 999);
+    expect("every second cell", r.number, r.written, 0, 500 * 22 + 7);
+    expect_end("every second cell", "10499997+000000099799910500999+0000000999999T999999");
+    marks[0] = 1;
+    drum[0] = FOREIGN;
+    r = make("a marked cell 000 that holds no word", CELLS, CELLS, ALL, 101, 7);
+    expect("a marked cell 000 that holds no word", r.number, r.written, 10, 0);
+    drum[0] = 0;
+    marks[999] = 2;
+    r = make("a mark of 2 at 999", CELLS, CELLS, ALL, 101, 7);
+    expect("a mark of 2 at 999", r.number, r.written, 10, 0);
+}
+
 int main(void)
 {
     size_t i;
@@ -365,6 +519,7 @@ int main(void)
     paper_session();
     switches();
     refusals();
+    makes();
     printf("panel: %d cases, %d wrong\n", tried, wrong);
     return wrong != 0;
 }

@@ -1,6 +1,6 @@
 /* Makes the calls that a stream of cases asks for, and writes the answers: the library's side of the comparison with the second
- * program, whose README has the formats. The one argument says what the cases are: numbers, decks, sessions or codes. All that is lent
- * lies between guards, and each answer says whether a call has touched one; the argument guards has that tried. */
+ * program, whose README has the formats. The one argument says what the cases are: numbers, decks, sessions, codes or makes. All that is
+ * lent lies between guards, and each answer says whether a call has touched one; the argument guards has that tried. */
 #include "l1.h"
 
 long read(int file, void *to, size_t most);
@@ -302,6 +302,39 @@ static void run(void)
     put_bench();
 }
 
+/* How many bytes of the output are the deck that was made last. */
+static size_t made;
+
+/* Before a making no byte of the output is one that a card can hold, and none is as its neighbour. The answer has them all, filled up with
+ * zeros to whole numbers. */
+static void make(void)
+{
+    size_t i, room = number();
+    uint64_t first = number(), problem = number(), eight;
+
+    stretch(&output, room);
+    for (i = 0; i < room; i++)
+        output.at[i] = (uint8_t)(0x80 | 29 * i);
+    struct l1_made r = l1_make(numbers_of(&drum), count_of(&drum), marks.at, marks.length, output.at, room, first, problem);
+    made = r.written < room ? r.written : room;
+    put(r.number);
+    put(r.written);
+    for (i = 0; i < room; i += sizeof eight) {
+        eight = 0;
+        memcpy(&eight, output.at + i, room - i < sizeof eight ? room - i : sizeof eight);
+        put(eight);
+    }
+    put_bench();
+}
+
+/* Puts what was made last on the bench as the deck. */
+static void take_made(void)
+{
+    stretch(&deck, made);
+    memcpy(deck.at, output.at, made);
+    deck_as_set = digest(&deck);
+}
+
 static void sessions(void)
 {
     uint64_t tag;
@@ -332,6 +365,12 @@ static void sessions(void)
             take_sparse();
             take_numbers(&state);
             take_deck(0);
+            break;
+        case 8:
+            make();
+            break;
+        case 9:
+            take_made();
             break;
         default:
             quit("driver: no such message\n");
@@ -375,12 +414,12 @@ int main(int words, char **word)
         numbers();
     else if (words == 2 && !strcmp(word[1], "decks"))
         decks();
-    else if (words == 2 && (!strcmp(word[1], "sessions") || !strcmp(word[1], "codes")))
+    else if (words == 2 && (!strcmp(word[1], "sessions") || !strcmp(word[1], "codes") || !strcmp(word[1], "makes")))
         sessions();
     else if (words == 2 && !strcmp(word[1], "guards"))
         guards();
     else
-        quit("driver: say numbers, decks, sessions, codes or guards\n");
+        quit("driver: say numbers, decks, sessions, codes, makes or guards\n");
     flush();
     return 0;
 }

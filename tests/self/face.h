@@ -43,3 +43,10 @@ struct l1_ended l1_run(uint64_t *drum, size_t cells, uint8_t *marks, size_t mark
     (void)state_len, (void)budget, (void)stop;
     return (struct l1_ended){ANSWER, 0, 0, 0, 0};
 }
+
+struct l1_made l1_make(const uint64_t *drum, size_t cells, const uint8_t *marks, size_t marks_len, uint8_t *out, size_t room,
+                       uint64_t first, uint64_t problem)
+{
+    (void)drum, (void)cells, (void)marks, (void)marks_len, (void)out, (void)room, (void)first, (void)problem;
+    return (struct l1_made){ANSWER, 0};
+}

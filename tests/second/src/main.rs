@@ -20,13 +20,15 @@ usage: second numbers SEED COUNT FILE             write cases
        second decks SEED COUNT FILE
        second sessions SEED COUNT FILE
        second codes SEED COUNT FILE
+       second makes SEED COUNT FILE
        second answer-numbers FILE OUT             answer cases with the model
        second answer-decks FILE OUT
-       second answer-sessions FILE OUT            (or answer-codes)
+       second answer-sessions FILE OUT            (or answer-codes, answer-makes)
        second judge-numbers SEED COUNT ANSWERS    compare answers with the model's
        second judge-decks SEED COUNT ANSWERS
        second judge-sessions SEED COUNT ANSWERS
        second judge-codes SEED COUNT ANSWERS
+       second judge-makes SEED COUNT ANSWERS
        second session FILE [traced] [stop] [budget=N]   load a deck on an empty drum and run it
        second speed FILE plain|traced             orders a second on a deck that goes round
        second self COUNT SEED                     all but session with the model alone";
@@ -65,6 +67,7 @@ fn write(command: &str, seed: u64, count: u64, file: &str) -> Option<bool> {
         "decks" => decks::write(seed, count, file),
         "sessions" => sessions::write(Stream::Drawn, seed, count, file),
         "codes" => sessions::write(Stream::Codes, seed, count, file),
+        "makes" => sessions::write(Stream::Makes, seed, count, file),
         _ => return None,
     }
     // Not on the standard output, which may be the file.
@@ -76,7 +79,7 @@ fn answer(command: &str, cases: &str, out: &str) -> Option<bool> {
     match command {
         "answer-numbers" => numbers::answer_all(cases, out),
         "answer-decks" => decks::answer_all(cases, out),
-        "answer-sessions" | "answer-codes" => sessions::answer_all(cases, out),
+        "answer-sessions" | "answer-codes" | "answer-makes" => sessions::answer_all(cases, out),
         _ => return None,
     }
     Some(true)
@@ -88,6 +91,7 @@ fn judge(command: &str, seed: u64, count: u64, answers: &str) -> Option<bool> {
         "judge-decks" => decks::judge(seed, count, answers),
         "judge-sessions" => sessions::judge(Stream::Drawn, seed, count, answers),
         "judge-codes" => sessions::judge(Stream::Codes, seed, count, answers),
+        "judge-makes" => sessions::judge(Stream::Makes, seed, count, answers),
         _ => return None,
     })
 }

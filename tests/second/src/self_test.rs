@@ -8,13 +8,16 @@ use std::process::Command;
 
 use crate::model::state::NUMBERS;
 
-const KINDS: [&str; 3] = ["numbers", "decks", "sessions"];
+const KINDS: [&str; 4] = ["numbers", "decks", "sessions", "makes"];
 
 /// Enough cases for full coverage; the spoiled answers are judged on so many.
 const FEW: u64 = 1_000;
 
 /// What follows number and place of a load, and the six numbers of a run.
 const BLOCK: usize = 1 + NUMBERS + 2;
+
+/// The answer to the first making, of seven bytes and with no state.
+const MADE: usize = 2 + 1 + 1 + 2;
 
 /// All codes that an order can have.
 const CODES: u64 = 10_000;
@@ -23,10 +26,12 @@ const CODES: u64 = 10_000;
 const NONE: &str = " 0 differences,";
 
 /// How many answers, counted in numbers of eight bytes from the start, are spoiled one by one. In
-/// sessions these are all parts of the answers to a load and to the run behind it.
+/// sessions these are all parts of the answers to a load and to the run behind it, in makes to a
+/// making and to the load behind it.
 fn spoiled(kind: &str) -> usize {
     match kind {
         "sessions" => (2 + BLOCK) + (6 + BLOCK),
+        "makes" => MADE + (2 + BLOCK),
         "decks" => 6,
         _ => 4,
     }

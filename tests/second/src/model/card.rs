@@ -1,6 +1,6 @@
 //! Cards: the layout of each kind, reading one card, writing one card.
 
-use super::word::Word;
+use super::word::{put_digits, Word};
 
 /// What is due at one byte of a card's body.
 #[derive(Clone, Copy, Debug, PartialEq, Eq)]
@@ -56,16 +56,18 @@ pub const LAST_CELL: u64 = 999;
 
 /// The body that a kind byte promises, or none if decks hold no such kind.
 fn layout(kind: u8) -> Option<Vec<Due>> {
-    let digits = |count: usize| vec![Due::Digit; count];
-    let word = [vec![Due::Sign], digits(10)].concat();
-    match kind {
-        b'1'..=b'5' => {
-            let words = word.repeat((kind - b'0') as usize);
-            Some([digits(4), digits(3), words, digits(3)].concat())
-        }
-        b'T' => Some([digits(3), digits(3)].concat()),
-        _ => None,
+    let words = match kind {
+        b'1'..=b'5' => (kind - b'0') as usize,
+        b'T' => return Some(vec![Due::Digit; 3 + 3]),
+        _ => return None,
+    };
+    let mut layout = vec![Due::Digit; 4 + 3];
+    for _ in 0..words {
+        layout.push(Due::Sign);
+        layout.extend([Due::Digit; 10]);
     }
+    layout.extend([Due::Digit; 3]);
+    Some(layout)
 }
 
 /// The card at the start of `rest`, which is not empty, and its length.
@@ -128,8 +130,12 @@ impl DataCard {
     }
 
     fn with_kind(&self, kind: &str) -> String {
-        let words: String = self.words.iter().map(|word| word.text()).collect();
-        format!("{kind}{:04}{:03}{words}{:03}", self.number, self.location, self.problem)
+        let mut text = kind.to_string();
+        put_digits(&mut text, self.number, 4);
+        put_digits(&mut text, self.location, 3);
+        self.words.iter().for_each(|word| word.put(&mut text));
+        put_digits(&mut text, self.problem, 3);
+        text
     }
 }
 

@@ -11,25 +11,30 @@ pub struct Drum<'a> {
     marks: &'a mut [u8],
 }
 
+/// Both runs must have 1,000 entries, every mark be 0 or 1, and every marked cell hold a word. What an
+/// unmarked cell holds is not looked at.
+pub fn judge(cells: &[u64], marks: &[u8]) -> Result<(), Reason> {
+    if let Some(length) = Length::wrong(cells.len(), CELLS) {
+        return Err(Reason::DrumLength(length));
+    }
+    if let Some(length) = Length::wrong(marks.len(), CELLS) {
+        return Err(Reason::MarksLength(length));
+    }
+    if let Some(&mark) = marks.iter().find(|&&mark| mark > 1) {
+        return Err(Reason::MarkAboveOne(above_one(mark)));
+    }
+    let marked = |cell: &usize| marks[*cell] == 1;
+    let no_word = |cell: &usize| Word::of_cell(cells[*cell]).is_none();
+    if let Some(cell) = (0..CELLS).filter(marked).find(no_word) {
+        let near = cells[cell] < 3 * MINUS;
+        return Err(Reason::MarkedCellNoWord(if near { Above::Near } else { Above::Far }));
+    }
+    Ok(())
+}
+
 impl<'a> Drum<'a> {
-    /// Both runs must have 1,000 entries, every mark be 0 or 1, and every marked cell hold a word.
-    /// What an unmarked cell holds is not looked at.
     pub fn lent(cells: &'a mut [u64], marks: &'a mut [u8]) -> Result<Drum<'a>, Reason> {
-        if let Some(length) = Length::wrong(cells.len(), CELLS) {
-            return Err(Reason::DrumLength(length));
-        }
-        if let Some(length) = Length::wrong(marks.len(), CELLS) {
-            return Err(Reason::MarksLength(length));
-        }
-        if let Some(&mark) = marks.iter().find(|&&mark| mark > 1) {
-            return Err(Reason::MarkAboveOne(above_one(mark)));
-        }
-        let marked = |cell: &usize| marks[*cell] == 1;
-        let no_word = |cell: &usize| Word::of_cell(cells[*cell]).is_none();
-        if let Some(cell) = (0..CELLS).filter(marked).find(no_word) {
-            let near = cells[cell] < 3 * MINUS;
-            return Err(Reason::MarkedCellNoWord(if near { Above::Near } else { Above::Far }));
-        }
+        judge(cells, marks)?;
         Ok(Drum { cells, marks })
     }
 

@@ -7,6 +7,7 @@ pub mod deck;
 pub mod drum;
 pub mod event;
 pub mod machine;
+pub mod making;
 pub mod natural;
 pub mod nearest;
 pub mod operation;

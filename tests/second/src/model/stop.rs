@@ -78,7 +78,7 @@ pub enum Astray {
     PastEnd,
 }
 
-/// What a call judges before it begins, in this order.
+/// What load and run judge before they begin, in this order.
 #[derive(Clone, Copy, Debug, PartialEq, Eq, PartialOrd, Ord)]
 pub enum Entry {
     Drum,
@@ -108,6 +108,8 @@ pub enum Reason {
     TracingInPlainMode,
     Cell000Unmarked,
     ReaderAstray(Astray),
+    FirstOrder000,
+    FirstOrderAbove999,
     Location000,
     LocationPast999,
     SumAbove999(Field),
@@ -120,6 +122,7 @@ pub enum Reason {
     BlockUnmarked,
     NoRoomForTrace,
     NoRoomForPunch,
+    NoRoomForDeck,
     NotBuilt,
     NotNumber(Field),
     ZeroDivisor,
@@ -143,10 +146,11 @@ impl Reason {
             StateLength(_) | BudgetAbove999999 | LocationAbove1000 | BoxAbove999(_) => 12,
             CounterAbove9999 | ProblemAbove999 | ModeAbove1 | TracingAbove1 => 12,
             TracingInPlainMode | Cell000Unmarked | ReaderAstray(_) => 12,
+            FirstOrder000 | FirstOrderAbove999 => 12,
             Location000 | LocationPast999 | SumAbove999(_) => 20,
             BlockFrom000 | BlockBackward | ChangeOf000 | SubroutineAt000 => 20,
             OrderUnmarked | Unmarked(_) | BlockUnmarked => 21,
-            NoRoomForTrace | NoRoomForPunch => 22,
+            NoRoomForTrace | NoRoomForPunch | NoRoomForDeck => 22,
             NotBuilt => 23,
             NotNumber(_) => 24,
             ZeroDivisor => 25,
@@ -157,7 +161,7 @@ impl Reason {
         }
     }
 
-    /// What was being judged, for a call that was not begun; none for a run that was.
+    /// What was being judged, for a load or a run that was not begun; none for a run that was.
     pub fn entry(self) -> Option<Entry> {
         use Reason::*;
         match self {

@@ -3,6 +3,17 @@
 /// A cell of the drum adds this to the digits of a minus word; ten digits stay below it.
 pub const MINUS: u64 = 10_000_000_000;
 
+/// Puts a number of so many digits, at most ten, behind a text.
+pub fn put_digits(text: &mut String, number: u64, width: usize) {
+    let (mut digits, mut rest) = ([b'0'; 10], number);
+    for digit in digits[..width].iter_mut().rev() {
+        *digit += (rest % 10) as u8;
+        rest /= 10;
+    }
+    assert_eq!(rest, 0, "{number} has more than {width} digits");
+    text.extend(digits[..width].iter().map(|&digit| digit as char));
+}
+
 /// A sign and ten decimal digits. Minus zero is a word of its own.
 #[derive(Clone, Copy, Debug, PartialEq, Eq)]
 pub struct Word {
@@ -36,8 +47,15 @@ impl Word {
 
     /// Sign byte and ten digits, as on a card.
     pub fn text(self) -> String {
-        let sign = if self.minus { '-' } else { '+' };
-        format!("{sign}{:010}", self.digits)
+        let mut text = String::new();
+        self.put(&mut text);
+        text
+    }
+
+    /// The same, behind a text.
+    pub fn put(self, text: &mut String) {
+        text.push(if self.minus { '-' } else { '+' });
+        put_digits(text, self.digits, 10);
     }
 
     /// The word that eleven good bytes of a card spell.

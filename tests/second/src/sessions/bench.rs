@@ -1,14 +1,21 @@
 //! The model in the place of the driver: what lies on the bench during a session, and the answers.
 
 use super::digest;
-use super::message::Message;
+use super::message::{Make, Message};
 use crate::decks::UNHURT;
 use crate::model::calls::{load, run, Ended, Refusal, Run};
 use crate::model::event::Event;
+use crate::model::making::make;
 use crate::model::state::NAMES;
+use crate::model::stop::Reason;
 
 /// What every byte of the output holds before a run.
 const UNTOUCHED: u8 = 0xA5;
+
+/// What byte `i` of the output holds before a making: no byte of a card, and not its neighbour's.
+fn unmade(i: usize) -> u8 {
+    0x80 | (29 * i) as u8
+}
 
 #[derive(Clone, Default)]
 pub struct Bench {
@@ -16,12 +23,45 @@ pub struct Bench {
     marks: Vec<u8>,
     deck: Vec<u8>,
     pub state: Vec<u64>,
+    /// The deck that was made last.
+    made: Vec<u8>,
 }
 
 /// What a call gave.
 pub enum Outcome {
     Load(Result<(), Refusal>),
     Run { ended: Ended, out: Vec<u8> },
+    Make { made: Result<u64, Reason>, out: Vec<u8> },
+}
+
+/// Which call an answer is to; `output`: how many of its numbers are the bytes of the output.
+#[derive(Clone, Copy, PartialEq, Eq)]
+pub enum Call {
+    Load,
+    Run,
+    Make { output: usize },
+}
+
+/// In the answer to a making the output begins here.
+const MADE: usize = 2;
+
+impl Call {
+    fn output(self) -> usize {
+        match self {
+            Call::Make { output } => output,
+            Call::Load | Call::Run => 0,
+        }
+    }
+}
+
+impl Outcome {
+    pub fn call(&self) -> Call {
+        match self {
+            Outcome::Load(_) => Call::Load,
+            Outcome::Run { .. } => Call::Run,
+            Outcome::Make { out, .. } => Call::Make { output: out.len().div_ceil(8) },
+        }
+    }
 }
 
 impl Bench {
@@ -30,7 +70,8 @@ impl Bench {
         match message {
             Message::Begin(begin) => {
                 let (cells, marks) = (begin.cells.all(), begin.marks.all());
-                *self = Bench { cells, marks, deck: Vec::new(), state: begin.state.clone() };
+                let (state, made) = (begin.state.clone(), std::mem::take(&mut self.made));
+                *self = Bench { cells, marks, deck: Vec::new(), state, made };
                 None
             }
             Message::Deck(deck) => {
@@ -42,11 +83,16 @@ impl Bench {
                 None
             }
             Message::Load { traced } => {
-                let Bench { cells, marks, deck, state } = self;
+                let Bench { cells, marks, deck, state, .. } = self;
                 Some(Outcome::Load(load(cells, marks, deck, state, *traced != 0, witness)))
             }
             Message::Run { room, budget, stop } => {
                 Some(self.run(*room, *budget, *stop != 0, witness))
+            }
+            Message::Make(asked) => Some(self.make(*asked)),
+            Message::TakeMade => {
+                self.deck.clone_from(&self.made);
+                None
             }
             Message::EndOfSession | Message::EndOfStream => None,
         }
@@ -60,10 +106,18 @@ impl Bench {
         witness: &mut dyn FnMut(Event),
     ) -> Outcome {
         let mut out = vec![UNTOUCHED; room as usize];
-        let Bench { cells, marks, deck, state } = self;
+        let Bench { cells, marks, deck, state, .. } = self;
         let lent = Run { cells, marks, deck, out: &mut out, state, budget, switch_on_stop: stop };
         let ended = run(lent, witness);
         Outcome::Run { ended, out }
+    }
+
+    fn make(&mut self, asked: Make) -> Outcome {
+        let Make { room, first_order, problem } = asked;
+        let mut out: Vec<u8> = (0..room as usize).map(unmade).collect();
+        let made = make(&self.cells, &self.marks, &mut out, first_order, problem);
+        self.made = out[..made.map_or(0, |written| written as usize)].to_vec();
+        Outcome::Make { made, out }
     }
 
     /// The numbers that the driver writes after a call. The drum's digest is the last but one.
@@ -75,6 +129,14 @@ impl Bench {
                 let Ended { reason, place, count, shown, written } = *ended;
                 vec![reason.number(), place, count, shown.cell(), written, digest::of_bytes(out)]
             }
+            Outcome::Make { made, out } => {
+                let mut answer = match made {
+                    Ok(written) => vec![0, *written],
+                    Err(reason) => vec![reason.number(), 0],
+                };
+                answer.extend(out.chunks(8).map(eight));
+                answer
+            }
         };
         answer.push(UNHURT);
         answer.extend(&self.state);
@@ -84,12 +146,31 @@ impl Bench {
     }
 }
 
-/// The name of one number of an answer, for telling a difference.
-pub fn label(is_run: bool, index: usize, length: usize) -> String {
-    let heads: &[&str] = if is_run {
-        &["number", "place", "count", "shown", "written", "digest of the output", "touched"]
-    } else {
-        &["number", "place", "touched"]
+/// Eight bytes as a number, the least first, with zeros where there are fewer.
+fn eight(bytes: &[u8]) -> u64 {
+    bytes.iter().rev().fold(0, |number, &byte| number << 8 | byte as u64)
+}
+
+/// One number of an answer: its name, and the number or the bytes that it stands for.
+pub fn told(call: Call, index: usize, answer: &[u64]) -> (String, String) {
+    let (number, output) = (answer[index], call.output());
+    if (MADE..MADE + output).contains(&index) {
+        let bytes = 8 * (index - MADE);
+        let text = number.to_le_bytes().escape_ascii().to_string();
+        return (format!("bytes {bytes} to {} of the output", bytes + 7), text);
+    }
+    let index = if index < MADE { index } else { index - output };
+    (label(call, index, answer.len() - output), number.to_string())
+}
+
+/// The name of a number of an answer from which the output is left out.
+fn label(call: Call, index: usize, length: usize) -> String {
+    let heads: &[&str] = match call {
+        Call::Load => &["number", "place", "touched"],
+        Call::Run => {
+            &["number", "place", "count", "shown", "written", "digest of the output", "touched"]
+        }
+        Call::Make { .. } => &["number", "written", "touched"],
     };
     if let Some(head) = heads.get(index) {
         return head.to_string();

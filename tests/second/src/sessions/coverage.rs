@@ -3,6 +3,7 @@
 use std::collections::BTreeMap;
 
 use super::draw::codes;
+use super::makes::{self, Seen};
 use super::reach;
 use crate::model::event::Event;
 use crate::model::order::{Built, Code, Second, BUILT};
@@ -14,6 +15,7 @@ pub struct Coverage {
     events: BTreeMap<Event, u64>,
     /// How often a run, or a refused load, answered each stop number.
     numbers: BTreeMap<u64, u64>,
+    makings: BTreeMap<Seen, u64>,
 }
 
 impl Coverage {
@@ -23,6 +25,10 @@ impl Coverage {
 
     pub fn ended(&mut self, number: u64) {
         *self.numbers.entry(number).or_default() += 1;
+    }
+
+    pub fn saw_making(&mut self, seen: Seen) {
+        *self.makings.entry(seen).or_default() += 1;
     }
 
     fn times(&self, wanted: impl Fn(Event) -> bool) -> u64 {
@@ -71,6 +77,19 @@ impl Coverage {
         let not_built =
             self.times(|event| matches!(event, Event::Refused { reason: Reason::NotBuilt, .. }));
         verdict.require("codes that are not built", not_built, codes::NOT_BUILT * codes::RUNS);
+    }
+
+    pub fn tell_makings(&self) {
+        for (seen, times) in &self.makings {
+            println!("covered: {seen:?}: {times}");
+        }
+    }
+
+    pub fn require_makings(&self, count: u64, verdict: &mut Verdict) {
+        for seen in makes::reachable() {
+            let times = self.makings.get(&seen).copied().unwrap_or(0);
+            verdict.require(format!("{seen:?}"), times, often_enough(count));
+        }
     }
 
     /// Completions in plain mode, traced mode with tracing off, and with a trace card; refusals by

@@ -1,18 +1,22 @@
 //! The judge of the answers to whole sessions.
 
-use super::bench::{label, Bench, Outcome};
+use super::bench::{told, Bench, Call};
 use super::coverage::Coverage;
+use super::makes;
 use super::message::Message;
 use super::{twin_of, Stream};
 use crate::files::Reading;
 use crate::verdict::Verdict;
 
+/// Of one answer, so many differing numbers are told.
+const TOLD: usize = 8;
+
 /// One call of a session: its answer by the model and the answer that was read.
-struct Answered {
+pub struct Answered {
     /// The place of its message in the session.
     message: usize,
-    is_run: bool,
-    due: Vec<u64>,
+    call: Call,
+    pub due: Vec<u64>,
     got: Vec<u64>,
 }
 
@@ -44,15 +48,29 @@ pub fn judge(stream: Stream, seed: u64, count: u64, path: &str) -> bool {
         compare(&format!("session {index}"), &one, &first, &mut verdict);
         compare(&format!("twin of session {index}"), &other, &second, &mut verdict);
         compare_twins(index, &one, &other, &mut verdict);
+        if let Stream::Makes = stream {
+            makes::seen(&first, one[0].due[0] == 0, &mut |seen| coverage.saw_making(seen));
+            for (name, session, calls) in [("", &first, &one), ("twin of ", &second, &other)] {
+                if !makes::brings_back(session, calls) {
+                    verdict.difference(|| {
+                        format!("{name}session {index}: the deck does not bring its drum back")
+                    });
+                }
+            }
+        }
         twins += 1;
         calls += one.len() as u64;
     }
     verdict.end_of_answers(answers.at_end());
-    coverage.tell();
+    match stream {
+        Stream::Makes => coverage.tell_makings(),
+        _ => coverage.tell(),
+    }
     println!("covered: {calls} calls, {twins} twins");
     match stream {
         Stream::Drawn => coverage.require_all(count, &mut verdict),
         Stream::Codes => coverage.require_codes(&mut verdict),
+        Stream::Makes => coverage.require_makings(count, &mut verdict),
     }
     verdict.close(stream.name(), count, "sessions", seed)
 }
@@ -68,26 +86,28 @@ fn answered(
     for (message, asked) in session.iter().enumerate() {
         let Some(outcome) = bench.feed(asked, &mut |event| coverage.saw(event)) else { continue };
         let due = bench.answer(&outcome);
-        let is_run = matches!(outcome, Outcome::Run { .. });
-        if is_run || due[0] != 0 {
+        let call = outcome.call();
+        if call == Call::Run || call == Call::Load && due[0] != 0 {
             coverage.ended(due[0]);
         }
         let got = answers.many(due.len() as u64)?;
-        all.push(Answered { message, is_run, due, got });
+        all.push(Answered { message, call, due, got });
     }
     Some(all)
 }
 
 fn compare(name: &str, calls: &[Answered], session: &[Message], verdict: &mut Verdict) {
-    for Answered { message, is_run, due, got } in calls {
+    for Answered { message, call, due, got } in calls {
         if due == got {
             continue;
         }
         verdict.difference(|| {
             let differing: Vec<String> = (0..due.len())
                 .filter(|&i| due[i] != got[i])
+                .take(TOLD)
                 .map(|i| {
-                    format!("{}: model {}, answer {}", label(*is_run, i, due.len()), due[i], got[i])
+                    let ((what, model), (_, answer)) = (told(*call, i, due), told(*call, i, got));
+                    format!("{what}: model {model}, answer {answer}")
                 })
                 .collect();
             format!("{name}, message {message} ({:?}): {}", session[*message], differing.join("; "))

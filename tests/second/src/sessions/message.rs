@@ -6,11 +6,28 @@ use crate::files::{Reading, Writing};
 pub enum Message {
     Begin(Begin),
     Deck(Vec<u8>),
-    Load { traced: u64 },
-    Run { room: u64, budget: u64, stop: u64 },
+    Load {
+        traced: u64,
+    },
+    Run {
+        room: u64,
+        budget: u64,
+        stop: u64,
+    },
     State(Vec<u64>),
+    Make(Make),
+    /// What was made last is the deck now.
+    TakeMade,
     EndOfSession,
     EndOfStream,
+}
+
+/// What a making is asked for.
+#[derive(Clone, Copy, Debug, PartialEq, Eq)]
+pub struct Make {
+    pub room: u64,
+    pub first_order: u64,
+    pub problem: u64,
 }
 
 /// Drum, marks and state at the start of a session.
@@ -90,6 +107,10 @@ impl Message {
                 out.numbers(state);
             }
             Message::EndOfSession => out.numbers(&[6]),
+            Message::Make(Make { room, first_order, problem }) => {
+                out.numbers(&[8, *room, *first_order, *problem])
+            }
+            Message::TakeMade => out.numbers(&[9]),
         }
     }
 
@@ -120,6 +141,11 @@ impl Message {
                 let marks = Marks::Sparse { length: input.number()?, pairs: pairs(input)? };
                 Message::Begin(Begin { cells, marks, state: counted(input)? })
             }
+            8 => {
+                let [room, first_order, problem] = input.some()?;
+                Message::Make(Make { room, first_order, problem })
+            }
+            9 => Message::TakeMade,
             other => panic!("no message has the tag {other}"),
         })
     }

@@ -1,10 +1,11 @@
-//! Differential testing of whole sessions: load and run.
+//! Differential testing of whole sessions: load, run and make.
 
 mod bench;
 mod coverage;
 mod digest;
 mod draw;
 mod judge;
+mod makes;
 mod message;
 mod reach;
 mod twin;
@@ -30,6 +31,8 @@ pub enum Stream {
     Drawn,
     /// One for each first four digits of an order.
     Codes,
+    /// A deck made of a drum and loaded on another, without end.
+    Makes,
 }
 
 impl Stream {
@@ -37,14 +40,16 @@ impl Stream {
         match self {
             Stream::Drawn => "sessions",
             Stream::Codes => "codes",
+            Stream::Makes => "makes",
         }
     }
 
     /// The session of an index, ended but not yet with its twin.
     fn session(self, seed: u64, index: u64) -> Vec<Message> {
         match self {
-            Stream::Drawn => draw::session(seed, index),
+            Stream::Drawn => makes::kept(draw::session(seed, index), seed, index),
             Stream::Codes => draw::codes::session(seed, index),
+            Stream::Makes => makes::session(seed, index),
         }
     }
 }

@@ -36,7 +36,7 @@ fn exchange(begin: &Begin, chance: &mut Chance) -> Begin {
 }
 
 /// Words, numbers that are no words, orders that would stop: whatever might be believed.
-fn any(chance: &mut Chance) -> u64 {
+pub fn any(chance: &mut Chance) -> u64 {
     match chance.below(6) {
         0 => chance.next(),
         1 => u64::MAX - chance.below(3),

@@ -1,6 +1,7 @@
 //! Worked sessions on the model.
 
 mod entry;
+mod making;
 mod orders;
 mod paper;
 mod tracing;

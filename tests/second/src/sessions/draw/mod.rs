@@ -15,7 +15,7 @@ mod program;
 mod soup;
 mod steer;
 mod text;
-mod wrong;
+pub mod wrong;
 
 use super::message::Message;
 use super::reach;
