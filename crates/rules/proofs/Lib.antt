@@ -14,6 +14,7 @@ pub mod Fields
 pub mod Dues
 pub mod CardTrips
 pub mod Decks
+pub mod Parts
 pub mod Results
 pub mod States
 pub mod Agreed
