@@ -14,3 +14,5 @@ pub mod Again
 pub mod Barred
 pub mod Beside
 pub mod Rooms
+pub mod Fewest
+pub mod MadeRooms

@@ -30,3 +30,5 @@ pub mod Full
 pub mod RoomRuns
 pub mod ShownWords
 pub mod Entered
+pub mod Blocks
+pub mod MadeSizes
