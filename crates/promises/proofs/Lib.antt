@@ -14,3 +14,4 @@ pub mod Again
 pub mod Barred
 pub mod Beside
 pub mod Rooms
+pub mod Making

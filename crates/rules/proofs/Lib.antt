@@ -29,3 +29,5 @@ pub mod Full
 pub mod RoomRuns
 pub mod ShownWords
 pub mod Entered
+pub mod MadeCells
+pub mod MadeDecks
