@@ -16,3 +16,4 @@ pub mod Beside
 pub mod Rooms
 pub mod Fewest
 pub mod MadeRooms
+pub mod Making

@@ -32,3 +32,5 @@ pub mod ShownWords
 pub mod Entered
 pub mod Blocks
 pub mod MadeSizes
+pub mod MadeCells
+pub mod MadeDecks
