@@ -9,6 +9,7 @@ pub mod Due
 pub mod Reckoning
 pub mod Cards
 pub mod Worked
+pub mod Prepared
 pub mod Entry
 pub mod Again
 pub mod Barred
