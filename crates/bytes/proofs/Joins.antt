@@ -2,15 +2,16 @@
 -- part. Assumes nothing.
 use mathlib.Core.Path.{_≡_, sym, ap, _∙_}
 use mathlib.Core.Bool.{Bool, true, false}
-use mathlib.Core.List.{List, [], _++_, append-nil}
+use mathlib.Core.List.{List, [], _++_, append-assoc, append-nil}
 use Prim.Native.Nat.{ℕ, _+_, _≤_}
 use native.Mathlib.Omega.{arith}
 use borrow.Author.Tests.{le-leb}
 use lib.Dec.{leb}
 use lib.ListN.{length, take, drop, length-append, length-drop, drop-of-length-le}
-use lib.Seq.{length-take-le}
+use lib.Seq.{length-take-le, drop-drop}
 use Rattle.rules.specs.Words.{pick}
 use Rattle.rules.specs.Running.{over}
+use Rattle.rules.proofs.Parts.{partOf, putBack, part-is, nothing-behind}
 use Rattle.bytes.specs.Put.{splice, putAt}
 use Rattle.bytes.proofs.Splices.{splice-none, splice-more, splice-start}
 
@@ -91,3 +92,13 @@ put-all s d q =
 -- n bytes of another run
 pub length-field : (d : List ℕ) (b n : ℕ) → b + n ≤ length d → length (take n (drop b d)) ≡ n
 length-field d b n h = length-take-le n (drop b d) (omega (arith, length-drop b d))
+
+-- s over the start of the part that is lent from place a on
+pub part-spliced : (a : ℕ) (s d p : List ℕ) → p ≡ over s (partOf a d) → putBack a d p ≡ splice a s d
+unfolding over splice
+part-spliced a s d p e =
+    let q : p ≡ s ++ drop (a + length s) d =
+    e ∙ ap (λ (l : List ℕ). s ++ drop (length s) l) (part-is a d) ∙ ap (λ (l : List ℕ). s ++ l) (drop-drop (length s) a d) in
+    ap (λ (l : List ℕ). take a d ++ (p ++ l)) (nothing-behind a d)
+    ∙ ap (λ (l : List ℕ). take a d ++ l) (append-nil p ∙ q)
+    ∙ sym (append-assoc (take a d) s (drop (a + length s) d))

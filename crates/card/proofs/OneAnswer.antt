@@ -21,6 +21,8 @@ use Rattle.card.proofs.reading.word_of.Kinds as word-of-kinds
 use Rattle.card.proofs.reading.word_of.Reads as word-of
 use Rattle.card.proofs.writing.write_data.Kinds as write-data-kinds
 use Rattle.card.proofs.writing.write_data.Reads as write-data
+use Rattle.card.proofs.writing.write_first.Kinds as write-first-kinds
+use Rattle.card.proofs.writing.write_first.Reads as write-first
 use Rattle.card.proofs.writing.write_stop.Kinds as write-stop-kinds
 use Rattle.card.proofs.writing.write_stop.Reads as write-stop
 use Rattle.card.proofs.writing.write_trace.Kinds as write-trace-kinds
@@ -49,6 +51,9 @@ one-stand κs a x y s t p q = p ∙ sym q
 
 pub one-data : Agrees 1 write-data-kinds.ps write-data-kinds.r write-data.Post (λ κs x y s t. (x ≡ y) × (now (s .0) ≡ now (t .0)))
 one-data κs a x y s t p q = (p .answer ∙ sym (q .answer), p .bytes ∙ sym (q .bytes))
+
+pub one-first : Agrees 1 write-first-kinds.ps write-first-kinds.r write-first.Post (λ κs x y s t. (x ≡ y) × (now (s .0) ≡ now (t .0)))
+one-first κs a x y s t p q = (p .answer ∙ sym (q .answer), p .bytes ∙ sym (q .bytes))
 
 pub one-trace : Agrees 1 write-trace-kinds.ps write-trace-kinds.r write-trace.Post (λ κs x y s t. (x ≡ y) × (now (s .0) ≡ now (t .0)))
 one-trace κs a x y s t p q = (p .answer ∙ sym (q .answer), p .bytes ∙ sym (q .bytes))

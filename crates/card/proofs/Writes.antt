@@ -1,7 +1,7 @@
 -- What may be written, and the three ways a writer ends: a field is out of range, the room is too small, or the whole card is written.
 -- Assumes nothing.
 use mathlib.Core.Path.{_≡_, refl, sym, ap, ap₂, _∙_}
-use mathlib.Core.List.{List, [], _∷_}
+use mathlib.Core.List.{List, [], _∷_, _++_}
 use mathlib.Core.Bool.{Bool, true, false}
 use Prim.Native.Nat.{ℕ, zero, suc, _+_, _≤_, _<_}
 use native.Mathlib.Nat.{le-of-suc-le-suc}
@@ -11,7 +11,10 @@ use lib.ListN.{length, take}
 use borrow.Author.Tests.{le-leb, lt-leb, leb-true}
 use Rattle.rules.specs.Words.{pick, both, isWord}
 use Rattle.rules.specs.Cards.{cellsFit}
+use Rattle.rules.specs.Drum.{wordAt}
+use Rattle.rules.specs.Orders.{wordsFrom}
 use Rattle.rules.specs.Running.{over}
+use Rattle.rules.specs.declared.Cell.{Cell}
 use Rattle.rules.proofs.Tests.{both-first, both-second}
 use Rattle.rules.proofs.Fields.{AllWords}
 use Rattle.card.specs.Written.{allWords, dataMay, fits, Wrote, WroteLine}
@@ -28,6 +31,22 @@ all-tested : (ws : List ℕ) → AllWords ws → allWords ws ≡ true
 unfolding allWords
 all-tested [] h = refl
 all-tested (w ∷ ws) h = ap₂ both (le-leb w 19999999999 (h 0 (omega arith))) (all-tested ws (λ i l. h (suc i) (omega arith)))
+
+-- the words of cells that hold words
+one-more : (ws : List ℕ) (w : ℕ) → allWords ws ≡ true → w ≤ 19999999999 → allWords (ws ++ (w ∷ [])) ≡ true
+unfolding allWords
+one-more [] w e l = simp (le-leb w 19999999999 l)
+one-more (x ∷ ws) w e l = by-test (isWord x) e (one-more ws w)
+  where
+    by-test : (t : Bool) → both t (allWords ws) ≡ true → (allWords ws ≡ true → w ≤ 19999999999 → allWords (ws ++ (w ∷ [])) ≡ true)
+        → both t (allWords (ws ++ (w ∷ []))) ≡ true
+    by-test true f k = k f l
+    by-test false f k = f
+
+pub all-words : (v : List Cell) (b n : ℕ) → ((a : ℕ) → wordAt v a ≤ 19999999999) → allWords (wordsFrom v b n) ≡ true
+unfolding wordsFrom allWords
+all-words v b zero h = refl
+all-words v b (suc n) h = one-more (wordsFrom v b n) (wordAt v (b + n)) (all-words v b n h) (h (b + n))
 
 pub record May (number location : ℕ) (words : List ℕ) (n problem : ℕ) : Type 0 where
   pub numbered : number ≤ 9999

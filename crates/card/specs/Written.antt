@@ -22,6 +22,10 @@ dataMay number location words n problem =
     both (leb number 9999)
     (both (leb 1 n) (both (leb n 5) (both (cellsFit location n) (both (leb problem 999) (allWords (take n words))))))
 
+-- a first-order card: the first order is one cell
+abbrev pub firstMay : ℕ → ℕ → Bool
+firstMay order problem = both (cellsFit order 1) (leb problem 999)
+
 -- a trace card: the location is that of its order
 abbrev pub traceMay : ℕ → ℕ → List ℕ → ℕ → Bool
 traceMay number location words problem =

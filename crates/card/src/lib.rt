@@ -18,5 +18,6 @@ pub use reading::first_bad;
 pub use reading::read_card;
 pub use reading::word_of;
 pub use writing::write_data;
+pub use writing::write_first;
 pub use writing::write_stop;
 pub use writing::write_trace;

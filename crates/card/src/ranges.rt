@@ -2,7 +2,7 @@
 ghost use mathlib.Core.Path.{_≡_};
 ghost use Prim.Native.Nat.{_≤_};
 ghost use lib.ListN.{length, take};
-ghost use Rattle.card.specs.Written.{allWords, dataMay, traceMay, stopMay};
+ghost use Rattle.card.specs.Written.{allWords, dataMay, firstMay, traceMay, stopMay};
 use crate::fields::cells_fit;
 
 // Whether the first n numbers are words.
@@ -42,6 +42,16 @@ pub(crate) fn data_may(number: u64, location: usize, words: &[u64], n: usize, pr
         return false;
     }
     all_words(words, n)
+}
+
+// Whether a first-order card may say this.
+pub(crate) fn first_may(order: usize, problem: u64) -> bool
+    ensures { λ r. ⌜ r ≡ firstMay order problem ⌝ }
+{
+    if !cells_fit(order as u64, 1) {
+        return false;
+    }
+    problem <= 999
 }
 
 // Whether a trace card may say this.

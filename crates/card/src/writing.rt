@@ -3,11 +3,12 @@
 ghost use mathlib.Core.Path.{_≡_};
 ghost use Prim.Native.Nat.{_≤_};
 ghost use lib.ListN.{length, take};
-ghost use Rattle.rules.specs.Cards.{dataCard, traceCard, stopCard};
+ghost use Rattle.rules.specs.Cards.{dataCard, firstCard, traceCard, stopCard};
 ghost use Rattle.rules.specs.Running.{over};
-ghost use Rattle.card.specs.Written.{dataMay, traceMay, stopMay, Wrote};
+ghost use Rattle.card.specs.Written.{dataMay, firstMay, traceMay, stopMay, Wrote};
 use crate::parts::put_card;
 use crate::ranges::data_may;
+use crate::ranges::first_may;
 use crate::ranges::stop_may;
 use crate::ranges::trace_may;
 use bytes::put_byte;
@@ -41,6 +42,30 @@ pub fn write_data(
         n,
         problem,
     );
+    true
+}
+
+// The whole of a first-order card, over the start of the output.
+fn put_first(out: &mut [u8], order: u64, problem: u64)
+    requires { ⌜ 7 ≤ length (now out) ⌝ }
+    ensures { λ _. ⌜ now (out .exit) ≡ over (firstCard order problem) (now (out .entry)) ⌝ }
+{
+    put_byte(out, 0, b'T');
+    put_field(out, 1, 3, order);
+    put_field(out, 4, 3, problem);
+}
+
+// A first-order card, and whether it was written.
+pub fn write_first(out: &mut [u8], order: usize, problem: u64) -> bool
+    ensures { λ r. ⌜ Wrote (firstMay order problem) (firstCard order problem) (now (out .entry)) r (now (out .exit)) ⌝ }
+{
+    if !first_may(order, problem) {
+        return false;
+    }
+    if out.len() < 7 {
+        return false;
+    }
+    put_first(out, order as u64, problem);
     true
 }
 

@@ -1,22 +1,23 @@
 -- One card of a block punched, and the cards of a whole block, said of the machine that the lent runs show. Assumes nothing.
 use Prim.Native.Nat.{ℕ, zero, suc, _+_, _-_, _*_, _%_, _≤_, _<_}
 use mathlib.Core.Path.{_≡_, refl, sym, ap, subst, _∙_}
-use mathlib.Core.List.{List, [], _∷_, _++_}
-use mathlib.Core.Bool.{Bool, true, false}
+use mathlib.Core.List.{List}
+use mathlib.Core.Bool.{Bool, true}
 use native.Mathlib.Omega.{arith}
-use lib.ListN.{length, getD, set, take, length-append}
+use lib.ListN.{length, getD, set, take}
 use borrow.Author.Tests.{le-leb, lt-leb, ne-eqb, eq-eqb}
-use Rattle.rules.specs.Words.{both, isWord}
 use Rattle.rules.specs.Cards.{dataCard}
-use Rattle.rules.specs.Drum.{view, wordAt}
+use Rattle.rules.specs.Drum.{view}
 use Rattle.rules.specs.Machine.{Machine, Inputs, onward}
 use Rattle.rules.specs.Orders.{wordsFrom, five, cardPunched, cardsPunched, punchSize, punched}
 use Rattle.rules.specs.declared.Cell.{Cell}
 use Rattle.rules.specs.declared.Outcome.the-variants.{GoesOn, Undone}
 use Rattle.rules.specs.declared.Refusal.the-variants.{NoRoom}
 use Rattle.rules.proofs.Fields.{length-data}
-use Rattle.card.specs.Written.{Wrote as WroteCard, allWords, dataMay}
-use Rattle.drum.specs.Held.{Words}
+use Rattle.rules.proofs.Parts.{partOf, putBack}
+use Rattle.rules.proofs.Punching.{words-long}
+use Rattle.card.specs.Written.{Wrote as WroteCard, dataMay}
+use Rattle.card.proofs.Writes.{all-words}
 use Rattle.drum.specs.Blocks.{firstWords}
 use Rattle.drum.proofs.Cells.{seen}
 use Rattle.drum.proofs.Runs.{gathered}
@@ -24,31 +25,9 @@ use Rattle.machine.specs.Lent.{rowOf, Fitting, Shows, Did, Sends}
 use Rattle.machine.specs.Stated.{numberedRow, cardSent}
 use Rattle.machine.specs.Fives.{NextCard}
 use Rattle.machine.proofs.Shown.{went-on, stays}
-use Rattle.machine.proofs.Sent.{partOf, putBack, out-long, written-is, card-shown, still-fits, no-further}
+use Rattle.machine.proofs.Sent.{out-long, written-is, card-shown, still-fits, no-further}
 
 -- ---- one card
-
-words-long : (v : List Cell) (b n : ℕ) → length (wordsFrom v b n) ≡ n
-unfolding wordsFrom
-words-long v b zero = refl
-words-long v b (suc n) =
-    let e : length (wordsFrom v b n) ≡ n = words-long v b n in
-    length-append (wordsFrom v b n) (wordAt v (b + n) ∷ []) ∙ omega arith
-
-one-more : (ws : List ℕ) (w : ℕ) → allWords ws ≡ true → w ≤ 19999999999 → allWords (ws ++ (w ∷ [])) ≡ true
-unfolding allWords
-one-more [] w e l = simp (le-leb w 19999999999 l)
-one-more (x ∷ ws) w e l = by-test (isWord x) e (one-more ws w)
-  where
-    by-test : (t : Bool) → both t (allWords ws) ≡ true → (allWords ws ≡ true → w ≤ 19999999999 → allWords (ws ++ (w ∷ [])) ≡ true)
-        → both t (allWords (ws ++ (w ∷ []))) ≡ true
-    by-test true f k = k f l
-    by-test false f k = f
-
-all-words : (v : List Cell) (b n : ℕ) → Words v → allWords (wordsFrom v b n) ≡ true
-unfolding wordsFrom allWords
-all-words v b zero h = refl
-all-words v b (suc n) h = one-more (wordsFrom v b n) (wordAt v (b + n)) (all-words v b n h) (h (b + n))
 
 module _ {drum₀ out₀ drum marks out row : List ℕ} {m : Machine} (h : Shows drum₀ out₀ drum marks out row m)
     {b n : ℕ} {words row₁ : List ℕ} (low : 1 ≤ b) (top : b + n ≤ 1000) (some : 1 ≤ n) (few : n ≤ 5)

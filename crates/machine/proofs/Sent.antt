@@ -4,27 +4,15 @@ use mathlib.Core.Path.{_≡_, refl, sym, ap, subst, _∙_}
 use mathlib.Core.List.{List, [], _∷_, _++_, append-assoc, append-nil}
 use mathlib.Core.Bool.{Bool, true}
 use native.Mathlib.Omega.{arith}
-use lib.ListN.{length, getD, take, drop, set, length-append, length-drop, drop-of-length-le}
-use lib.Seq.{take-all, take-at, drop-at, drop-drop, getD-set-other}
+use lib.ListN.{length, getD, take, drop, set, length-append, length-drop}
+use lib.Seq.{take-at, drop-at, drop-drop, getD-set-other}
 use borrow.Author.Tests.{le-leb}
 use Rattle.rules.specs.Running.{over}
 use Rattle.rules.specs.Machine.{Machine, numbered, withState, sending}
+use Rattle.rules.proofs.Parts.{partOf, putBack, part-is, nothing-behind}
 use Rattle.card.specs.Written.{Wrote as WroteCard, written}
 use Rattle.machine.specs.Lent.{rowOf, Fitting, Wrote, Shows}
 use Rattle.machine.specs.Stated.{numberedRow, cardSent}
-
--- the part of a run from a place on, and the run with another part put back
-abbrev pub partOf : ℕ → List ℕ → List ℕ
-partOf at out = take (length out - at) (drop at out)
-
-abbrev pub putBack : ℕ → List ℕ → List ℕ → List ℕ
-putBack at out p = take at out ++ (p ++ drop (length out - at) (drop at out))
-
-part-is : (at : ℕ) (out : List ℕ) → partOf at out ≡ drop at out
-part-is at out = let n : length (drop at out) ≡ length out - at = length-drop at out in take-all (length out - at) (drop at out) (omega arith)
-
-nothing-behind : (at : ℕ) (out : List ℕ) → drop (length out - at) (drop at out) ≡ []
-nothing-behind at out = let n : length (drop at out) ≡ length out - at = length-drop at out in drop-of-length-le (drop at out) {i = length out - at} (omega arith)
 
 module _ {out₀ out sent : List ℕ} (h : Wrote out₀ out sent) where
   pub out-long : length out ≡ length out₀

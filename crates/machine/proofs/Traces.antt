@@ -14,6 +14,7 @@ use Rattle.rules.specs.Machine.{Machine}
 use Rattle.rules.specs.Running.{boxWord, wordOfA, traceWords, traceSent}
 use Rattle.rules.specs.declared.Cell.{Cell}
 use Rattle.rules.proofs.Fields.{length-trace}
+use Rattle.rules.proofs.Parts.{partOf, putBack}
 use Rattle.card.specs.Written.{Wrote as WroteCard, allWords, traceMay}
 use Rattle.drum.specs.Held.{Words}
 use Rattle.drum.proofs.Cells.{seen}
@@ -21,7 +22,7 @@ use Rattle.machine.specs.Lent.{rowOf, Shows}
 use Rattle.machine.specs.Stated.{machineOf, numberedRow, cardSent}
 use Rattle.machine.proofs.Shown.{location-is}
 use Rattle.machine.proofs.Boxes.{state-is}
-use Rattle.machine.proofs.Sent.{partOf, putBack, card-shown}
+use Rattle.machine.proofs.Sent.{card-shown}
 
 -- what is shown of A is a word
 of-a-fits : (v : List Cell) (x : ℕ) → Words v → wordOfA v x ≤ 19999999999

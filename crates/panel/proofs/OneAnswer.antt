@@ -21,6 +21,8 @@ use Rattle.panel.proofs.l1_deck.Kinds as deck-kinds
 use Rattle.panel.proofs.l1_deck.Reads as deck
 use Rattle.panel.proofs.calls.l1_load.Kinds as load-kinds
 use Rattle.panel.proofs.calls.l1_load.Reads as load
+use Rattle.panel.proofs.calls.l1_make.Kinds as make-kinds
+use Rattle.panel.proofs.calls.l1_make.Reads as make
 use Rattle.panel.proofs.calls.l1_run.Kinds as run-kinds
 use Rattle.panel.proofs.calls.l1_run.Reads as run
 
@@ -68,3 +70,7 @@ one-run κs a x y s t p q = (
   p .out-is ∙ sym (q .out-is),
   p .row-is ∙ sym (q .row-is),
 )
+
+-- the output stands at the third place
+pub one-make : Agrees 3 make-kinds.ps make-kinds.r make.Post (λ κs x y s t. (x ≡ y) × (now (s .1 .1 .0) ≡ now (t .1 .1 .0)))
+one-make κs a x y s t p q = (p .told-is ∙ sym (q .told-is), p .out-is ∙ sym (q .out-is))

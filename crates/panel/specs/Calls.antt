@@ -1,4 +1,4 @@
--- What a C program is told of a call of load or run, and what the drum, the marks, the output and the nine numbers of the state that
+-- What a C program is told of a call of load, run or make, and what the drum, the marks, the output and the nine numbers of the state that
 -- it lent then hold. Assumes nothing.
 use Prim.Native.Nat.{ℕ}
 use mathlib.Core.Path.{_≡_}
@@ -7,11 +7,12 @@ use mathlib.Core.Bool.{Bool}
 use lib.Dec.{eqb, ltb}
 use lib.ListN.{length}
 use Rattle.rules.specs.Words.{pick}
-use Rattle.rules.specs.Numbers.{endingNumber, endingPlace, endingShown, loadingNumber, loadingPlace}
+use Rattle.rules.specs.Numbers.{endingNumber, endingPlace, endingShown, loadingNumber, loadingPlace, makingNumber, makingWritten}
 use Rattle.rules.specs.Drum.{view, drumFits}
 use Rattle.rules.specs.Decks.{deckOf}
 use Rattle.rules.specs.Loads.{LoadCall, LoadResult, notLoaded, loaded}
 use Rattle.rules.specs.Running.{RunCall, RunResult, notRun, ran}
+use Rattle.rules.specs.Making.{MakeCall, MakeResult}
 use Rattle.rules.specs.States.{stateIn, numbersOf}
 use Rattle.rules.specs.declared.Deck.{Deck}
 use Rattle.rules.specs.declared.Deck.the-variants.{Good, Faulty}
@@ -19,9 +20,11 @@ use Rattle.rules.specs.declared.Bar.{Bar}
 use Rattle.rules.specs.declared.Bar.the-variants.{BadDrum, BadDeck, BadState}
 use Rattle.rules.specs.declared.Loading.{Loading}
 use Rattle.rules.specs.declared.Ending.{Ending}
+use Rattle.rules.specs.declared.Making.{Making}
 use Rattle.rules.specs.declared.State.{State}
 use Rattle.panel.specs.declared.Place.{Place}
 use Rattle.panel.specs.declared.Ended.{Ended}
+use Rattle.panel.specs.declared.Made.{Made}
 
 -- a switch is on at any number but 0
 abbrev pub isOn : ℕ → Bool
@@ -80,3 +83,15 @@ pub record RunTold (row₀ : List ℕ) (x : RunResult) (drum marks out row : Lis
   pub marks-are : marks ≡ x .marks
   pub out-is : out ≡ x .out
   pub row-is : row ≡ rowAfter row₀ (x .state)
+
+-- ---- make
+
+abbrev pub makeCall : (drum marks out : List ℕ) (first problem : ℕ) → MakeCall
+makeCall drum marks out first problem = record { drum = drum; marks = marks; out = out; order = first; problem = problem }
+
+abbrev pub makingTold : Making → Made
+makingTold x = record { number = makingNumber x; written = makingWritten x }
+
+pub record MakeTold (x : MakeResult) (out : List ℕ) (r : Made) : Type 0 where
+  pub told-is : r ≡ makingTold (x .making)
+  pub out-is : out ≡ x .out

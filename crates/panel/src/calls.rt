@@ -1,7 +1,10 @@
-// Load and run on what a C program lends. The state is nine numbers, read and replaced in place.
+// Load, run and make on what a C program lends. The state is nine numbers, read and replaced in place.
 ghost use mathlib.Core.Path.{_≡_};
+ghost use Rattle.rules.specs.Making.{made};
+ghost use Rattle.panel.specs.Calls.{makeCall, makingTold, MakeTold};
 ghost use Rattle.panel.specs.Calls.{isOn, barred, loadCall, loadCalled, loadingTold, LoadTold, runCall, runCalled, endingTold, RunTold};
 use crate::Ended;
+use crate::Made;
 use crate::Place;
 use crate::rows::is_state;
 use crate::rows::put_state;
@@ -10,6 +13,7 @@ use rules::Bar;
 use rules::Deck;
 use rules::Ending;
 use rules::Loading;
+use rules::Making;
 use rules::Switches;
 
 // A switch is on at any number but 0.
@@ -113,4 +117,30 @@ pub extern "C" fn l1_run(
     put_state(state, after);
     let ending = x.ending;
     ending_told(ending, x.count, x.written)
+}
+
+// What is told of a deck that was to be made.
+fn making_told(x: Making) -> Made
+    ensures { λ r. ⌜ r ≡ makingTold x ⌝ }
+{
+    let number = stops::making_number(x);
+    let written = stops::making_written(x);
+    Made {
+        number,
+        written: written as u64,
+    }
+}
+
+// A load deck of the marked cells. Drum and marks are only read; where it is refused, the output stays as it came.
+#[no_mangle]
+pub extern "C" fn l1_make(
+    drum: &[u64],
+    marks: &[u8],
+    out: &mut [u8],
+    first: u64,
+    problem: u64,
+) -> Made
+    ensures { λ r. ⌜ MakeTold (made (makeCall (now (drum .entry)) (now (marks .entry)) (now (out .entry)) first problem)) (now (out .exit)) r ⌝ }
+{
+    making_told(making::make(drum, marks, out, first, problem))
 }

@@ -1,9 +1,10 @@
-// The C face: word arithmetic and the deck check here, load and run in calls, each under the C calling convention and for any operands.
+// The C face: word arithmetic and the deck check here, load, run and make in calls, each under the C calling convention and for any operands.
 // include/l1.h declares what is exported.
 mod calls;
 mod rows;
 
 pub use calls::l1_load;
+pub use calls::l1_make;
 pub use calls::l1_run;
 use rules::Deck;
 use rules::Reckoned;
@@ -63,6 +64,13 @@ pub struct Ended {
     pub place: u64,
     pub count: u64,
     pub shown: u64,
+    pub written: u64,
+}
+
+// What making a deck tells: 0 and the bytes of the deck, or why there is none and 0.
+#[repr(C)]
+pub struct Made {
+    pub number: u64,
     pub written: u64,
 }
 

@@ -9,8 +9,12 @@ pub mod Due
 pub mod Reckoning
 pub mod Cards
 pub mod Worked
+pub mod Prepared
 pub mod Entry
 pub mod Again
 pub mod Barred
 pub mod Beside
 pub mod Rooms
+pub mod Fewest
+pub mod MadeRooms
+pub mod Making

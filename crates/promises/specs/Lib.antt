@@ -11,3 +11,4 @@ pub mod Worked
 pub mod Again
 pub mod Rooms
 pub mod Making
+pub mod Prepared

@@ -14,6 +14,7 @@ pub mod Fields
 pub mod Dues
 pub mod CardTrips
 pub mod Decks
+pub mod Parts
 pub mod Results
 pub mod States
 pub mod Agreed
@@ -29,3 +30,7 @@ pub mod Full
 pub mod RoomRuns
 pub mod ShownWords
 pub mod Entered
+pub mod Blocks
+pub mod MadeSizes
+pub mod MadeCells
+pub mod MadeDecks

@@ -111,7 +111,7 @@ passes-block BlockIn v a b c t e = false-true t
 
 -- ---- how long cards are
 
-words-long : (v : List Cell) (b n : ℕ) → length (wordsFrom v b n) ≡ n
+pub words-long : (v : List Cell) (b n : ℕ) → length (wordsFrom v b n) ≡ n
 unfolding wordsFrom
 words-long v b zero = refl
 words-long v b (suc n) = length-append (wordsFrom v b n) (wordAt v (b + n) ∷ []) ∙ omega (arith, words-long v b n)

@@ -36,6 +36,10 @@ use Rattle.stops.proofs.loading_number.Kinds as loading-number-kinds
 use Rattle.stops.proofs.loading_number.Reads as loading-number
 use Rattle.stops.proofs.loading_place.Kinds as loading-place-kinds
 use Rattle.stops.proofs.loading_place.Reads as loading-place
+use Rattle.stops.proofs.making_number.Kinds as making-number-kinds
+use Rattle.stops.proofs.making_number.Reads as making-number
+use Rattle.stops.proofs.making_written.Kinds as making-written-kinds
+use Rattle.stops.proofs.making_written.Reads as making-written
 
 pub one-refusal-number : OneResult 0 refusal-number-kinds.ps refusal-number-kinds.r refusal-number.Post
 one-refusal-number κs a x y s t p q = p ∙ sym q
@@ -87,3 +91,9 @@ one-loading-number κs a x y s t p q = p ∙ sym q
 
 pub one-loading-place : OneResult 0 loading-place-kinds.ps loading-place-kinds.r loading-place.Post
 one-loading-place κs a x y s t p q = p ∙ sym q
+
+pub one-making-number : OneResult 0 making-number-kinds.ps making-number-kinds.r making-number.Post
+one-making-number κs a x y s t p q = p ∙ sym q
+
+pub one-making-written : OneResult 0 making-written-kinds.ps making-written-kinds.r making-written.Post
+one-making-written κs a x y s t p q = p ∙ sym q

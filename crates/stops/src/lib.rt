@@ -8,13 +8,14 @@ use rules::Bar;
 use rules::DeckFault;
 use rules::Ending;
 use rules::Loading;
+use rules::Making;
 use rules::Outcome;
 use rules::Reckoned;
 use rules::Refusal;
 use rules::Stop;
 ghost use mathlib.Core.Path.{_≡_};
 ghost use Rattle.rules.specs.Numbers.{refusalNumber, reckonedNumber, reckonedWord, deckNumber, deckPlace, barNumber, barPlace};
-ghost use Rattle.rules.specs.Numbers.{stopNumber, outcomeNumber, outcomeShown, endingNumber, endingPlace, endingShown, loadingNumber, loadingPlace};
+ghost use Rattle.rules.specs.Numbers.{stopNumber, outcomeNumber, outcomeShown, endingNumber, endingPlace, endingShown, loadingNumber, loadingPlace, makingNumber, makingWritten};
 
 // Why an order, or arithmetic on words, is refused.
 pub fn refusal_number(x: Refusal) -> u64
@@ -178,5 +179,28 @@ pub fn loading_place(x: Loading) -> u64
     match x {
         Loading::Loaded => 0,
         Loading::NotLoaded(b) => bar_place(b),
+    }
+}
+
+// A whole call of make: 0 and the bytes of the deck, or the number and 0.
+pub fn making_number(x: Making) -> u64
+    ensures { λ r. ⌜ r ≡ makingNumber x ⌝ }
+{
+    match x {
+        Making::Made(_) => 0,
+        Making::UnfitDrum => 10,
+        Making::UnfitNumber => 12,
+        Making::Full => 22,
+    }
+}
+
+pub fn making_written(x: Making) -> usize
+    ensures { λ r. ⌜ r ≡ makingWritten x ⌝ }
+{
+    match x {
+        Making::Made(n) => n,
+        Making::UnfitDrum => 0,
+        Making::UnfitNumber => 0,
+        Making::Full => 0,
     }
 }

@@ -1,0 +1,4 @@
+pub mod Ahead
+pub mod Writing
+pub mod Answers
+pub mod OneAnswer

@@ -1,0 +1,204 @@
+-- What a made deck is worth. A call that says how many bytes it made has passed its checks, and its output begins with the deck; that deck
+-- is good, has a card for each block, and stores each block's words. Assumes nothing.
+use Prim.Native.Nat.{ℕ, _≤_}
+use mathlib.Core.Path.{_≡_, refl, sym, ap, ap₂, subst, _∙_}
+use mathlib.Core.List.{List, _∷_, _++_, map}
+use mathlib.Core.Bool.{Bool, true, false}
+use native.Mathlib.Omega.{arith}
+use lib.Dec.{leb}
+use lib.ListN.{length, getD, take, drop, length-append, length-drop}
+use lib.Seq.{take-at, drop-at}
+use borrow.Author.Tests.{leb-true}
+use Rattle.rules.specs.Words.{pick, both}
+use Rattle.rules.specs.Drum.{cellOf, view, cellAt, markOf, numberOver, overlay, drumFits}
+use Rattle.rules.specs.Decks.{DataCard, dataFrom, deckOf}
+use Rattle.rules.specs.Running.{over}
+use Rattle.rules.specs.Loads.{cellsLoaded, loadedFrom, loaded}
+use Rattle.rules.specs.Making.{Block, blocksIn, deckMade, MakeCall, MakeResult, notMade, madeOf, numbersFit, made}
+use Rattle.rules.specs.declared.Cell.{Cell}
+use Rattle.rules.specs.declared.State.{State}
+use Rattle.rules.specs.declared.Deck.the-variants.{Good}
+use Rattle.rules.specs.declared.Making.{Making}
+use Rattle.rules.specs.declared.Making.the-variants.{Made, UnfitDrum, UnfitNumber, Full}
+use Rattle.rules.proofs.Tests.{both-first, both-second}
+use Rattle.rules.proofs.Views.{Fit, fit, length-view, marks-again}
+use Rattle.rules.proofs.MadeCells.{AllBear, no-card, one-card, Given, given-back, cell-at, mark-at, number-at}
+use Rattle.rules.proofs.MadeDecks.{deck-good, deck-bears}
+use Rattle.promises.specs.Calls.{loadOf}
+use Rattle.promises.specs.Making.{blockOf, HasThese, Restored, MadeIsGood, LoadsTheSame, RefusedMakeWritesNothing, MadePastUntouched}
+
+-- ---- what the checks of a call found
+
+abbrev cellsOf : MakeCall → List Cell
+cellsOf c = view (c .drum) (c .marks)
+
+abbrev deckFor : MakeCall → List ℕ
+deckFor c = deckMade (cellsOf c) (c .order) (c .problem)
+
+record Passed (c : MakeCall) : Type 0 where
+  lent : Fit (c .drum) (c .marks)
+  from : 1 ≤ c .order
+  upto : c .order ≤ 999
+  posed : c .problem ≤ 999
+  room : length (deckFor c) ≤ length (c .out)
+
+passed : (c : MakeCall) → drumFits (length (c .drum)) (c .marks) (cellsOf c) ≡ true → numbersFit (c .order) (c .problem) ≡ true
+    → leb (length (deckFor c)) (length (c .out)) ≡ true → Passed c
+passed c d n r =
+    let rest = both-second (leb 1 (c .order)) (both (leb (c .order) 999) (leb (c .problem) 999)) n in
+    record {
+      lent = fit (c .drum) (c .marks) d;
+      from = leb-true 1 (c .order) (both-first (leb 1 (c .order)) (both (leb (c .order) 999) (leb (c .problem) 999)) n);
+      upto = leb-true (c .order) 999 (both-first (leb (c .order) 999) (leb (c .problem) 999) rest);
+      posed = leb-true (c .problem) 999 (both-second (leb (c .order) 999) (leb (c .problem) 999) rest);
+      room = leb-true (length (deckFor c)) (length (c .out)) r;
+    }
+
+abbrev madeAs : MakeCall → MakeResult
+madeAs c = record { making = Made (length (deckFor c)); out = over (deckFor c) (c .out) }
+
+abbrev Refuses : Making → Type 0
+Refuses x = (n : ℕ) → x ≡ Made n → ⊥
+
+-- What is said of a call's result where no deck is made, and where one is made, is said of each.
+module _ (P : MakeResult → Type 0) (c : MakeCall) (not : (x : Making) → Refuses x → P (notMade c x)) (did : Passed c → P (madeAs c)) where
+  by-room : drumFits (length (c .drum)) (c .marks) (cellsOf c) ≡ true → numbersFit (c .order) (c .problem) ≡ true
+      → (t : Bool) → leb (length (deckFor c)) (length (c .out)) ≡ t → P (pick t (madeAs c) (notMade c Full))
+  by-room d n true e = did (passed c d n e)
+  by-room d n false e = not Full (λ k q. let z : _≡_ {A = ℕ} 0 1 = cc in omega arith)
+
+  by-numbers : drumFits (length (c .drum)) (c .marks) (cellsOf c) ≡ true → (t : Bool) → numbersFit (c .order) (c .problem) ≡ t
+      → P (pick t (madeOf c (deckFor c)) (notMade c UnfitNumber))
+  unfolding madeOf
+  by-numbers d true e = by-room d e (leb (length (deckFor c)) (length (c .out))) refl
+  by-numbers d false e = not UnfitNumber (λ k q. let z : _≡_ {A = ℕ} 0 1 = cc in omega arith)
+
+  by-drum : (t : Bool) → drumFits (length (c .drum)) (c .marks) (cellsOf c) ≡ t
+      → P (pick t (pick (numbersFit (c .order) (c .problem)) (madeOf c (deckFor c)) (notMade c UnfitNumber)) (notMade c UnfitDrum))
+  by-drum true e = by-numbers e (numbersFit (c .order) (c .problem)) refl
+  by-drum false e = not UnfitDrum (λ k q. let z : _≡_ {A = ℕ} 0 1 = cc in omega arith)
+
+  of-make : P (made c)
+  unfolding made
+  of-make = by-drum (drumFits (length (c .drum)) (c .marks) (cellsOf c)) refl
+
+-- a call that made n bytes
+record Done (c : MakeCall) (n : ℕ) (x : MakeResult) : Type 0 where
+  checks : Passed c
+  long : length (deckFor c) ≡ n
+  out-is : x .out ≡ deckFor c ++ drop n (c .out)
+
+same-made : {a b : ℕ} → Made a ≡ Made b → a ≡ b
+same-made e = cc
+
+done : (c : MakeCall) (n : ℕ) → made c .making ≡ Made n → Done c n (made c)
+unfolding over
+done c n =
+    of-make (λ (x : MakeResult). x .making ≡ Made n → Done c n x) c (λ x r e. absurd (r n e))
+    (λ p e. record {
+      checks = p;
+      long = same-made e;
+      out-is = ap (λ (k : ℕ). deckFor c ++ drop k (c .out)) (same-made e);
+    })
+
+module _ (c : MakeCall) (n : ℕ) (h : Done c n (made c)) where
+  cells-long : length (cellsOf c) ≡ 1000
+  cells-long = length-view (c .drum) (c .marks) (h .checks .lent .drum-long ∙ sym (h .checks .lent .marks-long)) ∙ h .checks .lent .drum-long
+
+  deck-is : take n (made c .out) ≡ deckFor c
+  deck-is = ap (take n) (h .out-is) ∙ take-at (deckFor c) (drop n (c .out)) n (h .long)
+
+  is-good : deckOf (take n (made c .out)) ≡ Good n (c .order) (c .problem)
+  is-good =
+      ap deckOf deck-is
+      ∙ deck-good (cellsOf c) (c .order) (c .problem) cells-long (h .checks .lent .words-fit) (h .checks .from) (h .checks .upto) (h .checks .posed)
+      ∙ ap (λ (k : ℕ). Good k (c .order) (c .problem)) (h .long)
+
+  bears : AllBear (cellsOf c) n (dataFrom (take n (made c .out)) 0) (blocksIn (cellsOf c))
+  bears =
+      subst (λ (d : List ℕ). AllBear (cellsOf c) n (dataFrom d 0) (blocksIn (cellsOf c))) (sym deck-is)
+      (subst (λ (k : ℕ). AllBear (cellsOf c) k (dataFrom (deckFor c) 0) (blocksIn (cellsOf c))) (h .long)
+      (deck-bears (cellsOf c) (c .order) (c .problem) cells-long (h .checks .lent .words-fit) (h .checks .from) (h .checks .upto) (h .checks .posed)))
+
+pub made-is-good : MadeIsGood
+made-is-good c n e = is-good c n (done c n e)
+
+-- ---- its cards
+
+borne : {v : List Cell} {end : ℕ} {ks : List DataCard} {bs : List Block} → AllBear v end ks bs → map blockOf ks ≡ bs
+borne no-card = refl
+borne (one-card h r) =
+    ap₂ (λ (b : Block) (bs : List Block). b ∷ bs)
+    (ap₂ (λ (l n : ℕ). record { location = l; cells = n }) (h .same-location) (h .same-words)) (borne r)
+
+pub has-these : HasThese
+has-these c n e = borne (bears c n (done c n e))
+
+-- ---- loaded again
+
+module _ (c : MakeCall) (n : ℕ) (h : Done c n (made c)) (drum marks : List ℕ)
+    (fits : drumFits (length drum) marks (view drum marks) ≡ true) (clear : (a : ℕ) → getD marks a 0 ≡ 0) where
+  there : Fit drum marks
+  there = fit drum marks fits
+
+  same-long : length drum ≡ length marks
+  same-long = there .drum-long ∙ sym (there .marks-long)
+
+  abbrev cells : List Cell
+  cells = cellsLoaded (view drum marks) (take n (made c .out)) n
+
+  given : Given (cellsOf c) cells
+  given =
+      given-back (cellsOf c) (view drum marks) (bears c n h) (cells-long c n h) (length-view drum marks same-long ∙ there .drum-long)
+      (λ x. cell-at drum marks x same-long ∙ ap (λ (m : ℕ). cellOf m (getD drum x 0)) (clear x))
+
+  -- what a cell holds after the load, and what it held where the deck was made
+  number-is : (a : ℕ) {x : Cell} → cellAt cells a ≡ x → getD (overlay drum cells) a 0 ≡ numberOver x (getD drum a 0)
+  number-is a e =
+      number-at drum cells a (there .drum-long ∙ sym (given .long)) ∙ ap (λ (y : Cell). numberOver y (getD drum a 0)) e
+
+  cell-is : (a : ℕ) {m : ℕ} → 1 ≤ a → getD (c .marks) a 0 ≡ m → cellAt cells a ≡ cellOf m (getD (c .drum) a 0)
+  cell-is a l e =
+      given .others a l
+      ∙ cell-at (c .drum) (c .marks) a (h .checks .lent .drum-long ∙ sym (h .checks .lent .marks-long))
+      ∙ ap (λ (k : ℕ). cellOf k (getD (c .drum) a 0)) e
+
+  restored : (s : State) (traced : Bool) → Restored c n drum traced (loaded (loadOf drum marks (take n (made c .out)) s traced))
+  unfolding loaded loadedFrom
+  restored s traced =
+      rw (fits, is-good c n h)
+      (record {
+        done = refl;
+        state-is = refl;
+        zero-marked = mark-at cells 0 ∙ ap markOf (given .zero-is);
+        zero-is = number-is 0 (given .zero-is);
+        marks-same = λ a l.
+            mark-at cells a
+            ∙ ap markOf (given .others a l)
+            ∙ sym (mark-at (cellsOf c) a)
+            ∙ ap (λ (ms : List ℕ). getD ms a 0) (marks-again (c .drum) (c .marks) (h .checks .lent));
+        words-same = λ a l e. number-is a (cell-is a l e);
+        others-kept = λ a l e. number-is a (cell-is a l e);
+      })
+
+pub loads-the-same : LoadsTheSame
+loads-the-same c n e drum marks fits clear s traced = restored c n (done c n e) drum marks fits clear s traced
+
+-- ---- what is written
+
+pub refused-make-writes-nothing : RefusedMakeWritesNothing
+refused-make-writes-nothing c =
+    of-make (λ (x : MakeResult). ((n : ℕ) → x .making ≡ Made n → ⊥) → x .out ≡ c .out) c (λ x r h. refl)
+    (λ p h. absurd (h (length (deckFor c)) refl))
+
+pub made-past-untouched : MadePastUntouched
+made-past-untouched c n e =
+    let h = done c n e in
+    record {
+      room = omega arith;
+      long =
+          ap length (h .out-is)
+          ∙ length-append (deckFor c) (drop n (c .out))
+          ∙ omega (arith, length-drop n (c .out));
+      past = ap (drop n) (h .out-is) ∙ drop-at (deckFor c) (drop n (c .out)) n (h .long);
+    }
