@@ -1,4 +1,5 @@
-/* The C face of the L1 library: word arithmetic, the check of a deck, and load and run on a drum that the caller lends.
+/* The C face of the L1 library: word arithmetic, the check of a deck, load and run on a drum that the caller lends, and a deck made of
+ * such a drum.
  *
  * Every function here takes any operands at all, answers, and keeps nothing between calls. What each answers is proved of the
  * library. What nothing can check is the caller's to see to:
@@ -101,13 +102,13 @@ struct l1_made {
     uint64_t written; /* how many bytes at the start of the output are the deck, 0 with a refusal; the bytes past them are as before */
 };
 
-/* Makes a deck of a drum: the marked cells 001 to 999 in ascending order, each run of neighbours on cards of five words with the rest on
- * the last, the cards numbered from 0001, and behind them the first-order card with the location first; all bear the problem number.
- * Loaded on a drum with all marks 0, the deck gives the same marks and the same marked words, 000 aside. It goes to the room bytes at
- * out, and takes 13,196 bytes at most. Drum and marks are only read; the cell at first need not be marked. Answers 0 and the deck's
- * length when that is done. Else nothing is written, and the answer is 0 bytes and the first of
+/* Makes a load deck of a drum: the words of the marked cells 001 to 999 in ascending order, each run of neighbouring ones on cards of
+ * five words with the rest on the last, numbered from 0001, and behind these a first-order card that names first. All bear the number
+ * problem. Loaded on a drum with all marks 0, such a deck gives the same marks and the same marked words, cell 000 aside. It is written
+ * to the room bytes at out; 13,196 are enough for any drum. Drum and marks are only read, and the cell at first need not be marked.
+ * Answers 0 and the deck's length when that is done. Else nothing is written, and the answer is 0 for written and the first of
  *   10: as for l1_load;
- *   12: first is 0 or above 999, or problem is above 999;
+ *   12: first is not 1 to 999, or problem is above 999;
  *   22: the deck does not fit the room. */
 struct l1_made l1_make(const uint64_t *drum, size_t cells, const uint8_t *marks, size_t marks_len, uint8_t *out, size_t room,
                        uint64_t first, uint64_t problem);

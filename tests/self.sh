@@ -44,7 +44,7 @@ no_difference() {
     ! grep -q "^$2: 500 .*, [1-9][0-9]* differences" "$made/judge.log"
 }
 
-# with_fault FAULT: the same of makings by tests/self/makes.c, with one fault, or with none where it is empty.
+# with_fault FAULT: whether the judge counts none on makings by tests/self/makes.c with one fault, or with none where FAULT is empty.
 with_fault() (
     export L1_FAULT="$1"
     face=-makes

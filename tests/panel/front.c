@@ -1,8 +1,8 @@
 /* The replica's front panel in a terminal. It reads commands, a line each, and writes an answer to each; `help` lists them. A command
  * may also stand behind the program's name, and then it is the only one: `front session examples/sum.deck`.
  *
- * Every call of include/l1.h is made here once, in its plainest form: arithmetic in `reckon`, the deck check in `check`, and load and
- * run, with all that they want lent to them, in `session`. */
+ * Every call of include/l1.h but l1_make is made here once, in its plainest form: arithmetic in `reckon`, the deck check in `check`, and
+ * load and run, with all that they want lent to them, in `session`. */
 #include "l1.h"
 
 int open(const char *path, int flags, ...);
