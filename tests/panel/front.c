@@ -1,8 +1,8 @@
 /* The replica's front panel in a terminal. It reads commands, a line each, and writes an answer to each; `help` lists them. A command
  * may also stand behind the program's name, and then it is the only one: `front session examples/sum.deck`.
  *
- * Every call of include/l1.h but l1_make is made here once, in its plainest form: arithmetic in `reckon`, the deck check in `check`, and
- * load and run, with all that they want lent to them, in `session`. */
+ * Every call of include/l1.h is made here once, in its plainest form: arithmetic in `reckon`, the deck check in `check`, load and run,
+ * with all that they want lent to them, in `session`, and a deck of the drum in `make`. */
 #include "l1.h"
 
 int open(const char *path, int flags, ...);
@@ -25,6 +25,8 @@ static const char help[] =
     "deck FILE                                       whether the bytes of a file are a deck\n"
     "session FILE [traced] [stop] [lines] [budget=N] loads a deck on an empty drum and runs it: with trace cards, with the\n"
     "                                                PROGRAMMED STOP switch on STOP, a card a line, N orders (999999) at most\n"
+    "make FIRST [PROBLEM]                            a load deck of the cells that the last session owns; the problem number is the\n"
+    "                                                session's where none is typed\n"
     "help, quit\n";
 
 /* Says what is wrong with a command. */
@@ -227,10 +229,29 @@ static int session(char **typed, int count)
     return 1;
 }
 
+/* The deck of the drum that the last session left, or the number of its refusal and 0. */
+static int make(char **typed, int count)
+{
+    uint64_t first, problem = state[5];
+
+    if (count < 1 || count > 2)
+        return wrong("one number or two are wanted behind", "make");
+    if (!digits(typed[0], &first))
+        return wrong("not a number", typed[0]);
+    if (count == 2 && !digits(typed[1], &problem))
+        return wrong("not a number", typed[1]);
+    struct l1_made m = l1_make(drum, CELLS, marks, CELLS, out, ROOM, first, problem);
+    if (m.number)
+        printf("%lu 0", m.number);
+    else
+        printf("%.*s", (int)m.written, (const char *)out);
+    return 1;
+}
+
 /* ---- Commands. */
 
-/* Does one command, which has at least one word. A session's answer is bytes for a file and ends with no line end; in a dialogue one is
- * added. Says 0 where something was wrong with the command. */
+/* Does one command, which has at least one word. The answer to session and to make is bytes for a file and ends with no line end; in a
+ * dialogue one is added. Says 0 where something was wrong with the command. */
 static int command(char **typed, int count, int dialogue)
 {
     size_t i;
@@ -241,8 +262,8 @@ static int command(char **typed, int count, int dialogue)
             return reckon(i, typed + 1, count - 1);
     if (!strcmp(typed[0], "deck"))
         return check(typed + 1, count - 1);
-    if (!strcmp(typed[0], "session")) {
-        done = session(typed + 1, count - 1);
+    if (!strcmp(typed[0], "session") || !strcmp(typed[0], "make")) {
+        done = typed[0][0] == 's' ? session(typed + 1, count - 1) : make(typed + 1, count - 1);
         if (done && dialogue)
             printf("\n");
         return done;
