@@ -1,66 +1,37 @@
--- How the cards of a drum are come upon, one behind the other: what a card from a cell on takes, which cards are still ahead, and how
--- many bytes they are. Assumes nothing.
-use Prim.Native.Nat.{ℕ, zero, suc, _+_, _-_, _*_, _≤_, _<_}
-use mathlib.Core.Path.{_≡_, refl, sym, ap, _∙_}
+-- How the cards of a drum are come upon, one behind the other: the marked cells from one on, and which cards are still ahead.
+-- Assumes nothing.
+use Prim.Native.Nat.{ℕ, _+_, _≤_, _<_}
+use mathlib.Core.Path.{_≡_, refl, sym, ap, subst, _∙_}
 use mathlib.Core.List.{List, [], _∷_}
 use mathlib.Core.Bool.{Bool, true, false}
 use native.Mathlib.Omega.{arith}
-use lib.ListN.{length, length-append}
+use lib.Dec.{eqb}
+use lib.ListN.{length}
+use borrow.Author.Tests.{eqb-true, eqb-false}
 use Rattle.rules.specs.Codes.{ownedAt}
-use Rattle.rules.specs.Orders.{wordsFrom}
-use Rattle.rules.specs.Cards.{dataCard, firstCard}
-use Rattle.rules.specs.Making.{Block, neighbours, blocksFrom, blocksIn, cardsFor, deckMade}
+use Rattle.rules.specs.Making.{Block, neighbours}
 use Rattle.rules.specs.declared.Cell.{Cell}
 use Rattle.rules.proofs.Tests.{false-true}
-use Rattle.rules.proofs.Fields.{length-data, length-first}
-use Rattle.rules.proofs.Punching.{words-long}
+use Rattle.rules.proofs.Blocks.{one-run, run-of, Cut, no-steps, passes, takes, Ahead, none-behind}
 
 -- ---- neighbours
 
-pub none-there : (v : List Cell) (a k : ℕ) → ownedAt v a ≡ false → neighbours v a k ≡ 0
-unfolding neighbours
-none-there v a zero e = refl
-none-there v a (suc k) e = rw e refl
+-- n cells from a on are marked
+abbrev pub Marked : List Cell → ℕ → ℕ → Type 0
+Marked v a n = (x : ℕ) → a ≤ x → x < a + n → ownedAt v x ≡ true
 
-pub no-count : (v : List Cell) (a : ℕ) → neighbours v a 0 ≡ 0
-unfolding neighbours
-no-count v a = refl
-
-one-more : (v : List Cell) (a k : ℕ) → ownedAt v a ≡ true → neighbours v a (suc k) ≡ suc (neighbours v (a + 1) k)
-unfolding neighbours
-one-more v a k e = rw e refl
-
-pub one-there : (v : List Cell) (a k : ℕ) → 0 < k → ownedAt v a ≡ true → neighbours v a k ≡ 1 + neighbours v (a + 1) (k - 1)
-one-there v a zero l e = let z : ⊥ = omega arith in absurd z
-one-there v a (suc k) l e =
-    let same : k ≡ suc k - 1 = omega arith in
-    one-more v a k e ∙ ap (λ (j : ℕ). suc (neighbours v (a + 1) j)) same ∙ omega arith
-
--- a marked cell is one of the drum
-inside : (v : List Cell) (a : ℕ) → ownedAt v a ≡ true → a < length v
-inside [] a e = false-true e
-inside (c ∷ v) zero e = omega arith
-inside (c ∷ v) (suc a) e = omega (arith, inside v a e)
-
--- and so are all that are counted
-pub within : (v : List Cell) (a k : ℕ) → a ≤ length v → a + neighbours v a k ≤ length v
-within v a zero l = omega (arith, no-count v a)
-within v a (suc k) l = by-owned (ownedAt v a) refl (within v (a + 1) k)
+pub one-more : (v : List Cell) (a n : ℕ) → Marked v a n → ownedAt v (a + n) ≡ true → Marked v a (n + 1)
+one-more v a n h e x i l = by-last (eqb x (a + n)) refl
   where
-    by-owned : (t : Bool) → ownedAt v a ≡ t → (a + 1 ≤ length v → a + 1 + neighbours v (a + 1) k ≤ length v) → a + neighbours v a (suc k) ≤ length v
-    by-owned true e h = omega (arith, one-more v a k e, h (omega (arith, inside v a e)))
-    by-owned false e h = omega (arith, none-there v a (suc k) e)
+    by-last : (t : Bool) → eqb x (a + n) ≡ t → ownedAt v x ≡ true
+    by-last true f = ap (ownedAt v) (eqb-true x (a + n) f) ∙ e
+    by-last false f = let d = eqb-false x (a + n) f in h x i (omega arith)
+
+-- up to five, and no more: so many are counted
+pub all-counted : (v : List Cell) (a n : ℕ) → n ≤ 5 → Marked v a n → (n < 5 → ownedAt v (a + n) ≡ false) → n ≡ neighbours v a 5
+all-counted v a n few owned ends = one-run (record { few = few; owned = owned; ends = ends }) (run-of v a 5)
 
 -- ---- cards ahead
-
--- from the cell a on these cards are ahead, and there are steps enough to the last cell
-pub record Ahead (v : List Cell) (a : ℕ) (bs : List Block) : Type 0 where
-  pub steps : ℕ
-  pub enough : 1000 ≤ a + steps
-  pub are : blocksFrom steps v a ≡ bs
-
-pub all-ahead : (v : List Cell) → Ahead v 1 (blocksIn v)
-all-ahead v = record { steps = 999; enough = omega arith; are = refl }
 
 -- the next one, of the n cells from a on, and those behind it
 pub record Next (v : List Cell) (a n : ℕ) (bs : List Block) : Type 0 where
@@ -68,72 +39,28 @@ pub record Next (v : List Cell) (a n : ℕ) (bs : List Block) : Type 0 where
   pub is : bs ≡ record { location = a; cells = n } ∷ rest
   pub ahead : Ahead v (a + n) rest
 
-module _ {v : List Cell} {a : ℕ} {bs : List Block} (h : Ahead v a bs) where
-  pub passed : a < 1000 → neighbours v a 5 ≡ 0 → Ahead v (a + 1) bs
-  unfolding blocksFrom
-  passed l e = by-steps (h .steps) (h .enough) (h .are)
-    where
-      by-steps : (k : ℕ) → 1000 ≤ a + k → blocksFrom k v a ≡ bs → Ahead v (a + 1) bs
-      by-steps zero m q = let z : ⊥ = omega arith in absurd z
-      by-steps (suc k) m q = record { steps = k; enough = omega arith; are = rw (e, blocksFrom) at q }
+pub passed : {v : List Cell} {a : ℕ} {bs : List Block} → Ahead v a bs → a < 1000 → neighbours v a 5 ≡ 0 → Ahead v (a + 1) bs
+passed {v} {a} h l e = by-cut (h .enough) (h .cut)
+  where
+    by-cut : {k : ℕ} {bs : List Block} → 1000 ≤ a + k → Cut v k a bs → Ahead v (a + 1) bs
+    by-cut m no-steps = let z : ⊥ = omega arith in absurd z
+    by-cut m (passes {k = k} o c) = record { steps = k; enough = omega arith; cut = c }
+    by-cut m (takes s r c) = let z : ⊥ = omega (arith, one-run r (run-of v a 5)) in absurd z
 
-  pub come-upon : (n : ℕ) → a < 1000 → n ≡ neighbours v a 5 → (n ≡ 0 → ⊥) → Next v a n bs
-  unfolding blocksFrom
-  come-upon zero l e z = absurd (z refl)
-  come-upon (suc n) l e z = by-steps (h .steps) (h .enough) (h .are)
-    where
-      by-steps : (k : ℕ) → 1000 ≤ a + k → blocksFrom k v a ≡ bs → Next v a (suc n) bs
-      by-steps zero m q = let y : ⊥ = omega arith in absurd y
-      by-steps (suc k) m q =
-          record {
-            rest = blocksFrom k v (a + suc n);
-            is = sym (rw (sym e, blocksFrom) at q);
-            ahead = record { steps = k; enough = omega arith; are = refl };
-          }
+pub come-upon : {v : List Cell} {a : ℕ} {bs : List Block} → Ahead v a bs → (n : ℕ) → a < 1000 → n ≡ neighbours v a 5 → (n ≡ 0 → ⊥) → Next v a n bs
+come-upon {v} {a} h n l e z = by-cut (h .enough) (h .cut)
+  where
+    by-cut : {k : ℕ} {bs : List Block} → 1000 ≤ a + k → Cut v k a bs → Next v a n bs
+    by-cut m no-steps = let y : ⊥ = omega arith in absurd y
+    by-cut m (passes o c) = false-true (sym o ∙ run-of v a 5 .owned a (omega arith) (omega arith))
+    by-cut m (takes {k = k} {n = j} {bs = bs} s r c) =
+        let same : j ≡ n = one-run r (run-of v a 5) ∙ sym e in
+        record {
+          rest = bs;
+          is = ap (λ (i : ℕ). record { location = a; cells = i } ∷ bs) same;
+          ahead = record { steps = k; enough = omega arith; cut = subst (λ (i : ℕ). Cut v k (a + i) bs) same c };
+        }
 
 -- past the last cell there are none
 pub none-ahead : {v : List Cell} {a : ℕ} {bs : List Block} → length v ≡ 1000 → 1000 ≤ a → Ahead v a bs → bs ≡ []
-unfolding blocksFrom
-none-ahead {v} {a} {bs} long l h = sym (h .are) ∙ nothing (h .steps) a l
-  where
-    foreign : (x : ℕ) → 1000 ≤ x → ownedAt v x ≡ false
-    foreign x m = by-owned (ownedAt v x) refl
-      where
-        by-owned : (t : Bool) → ownedAt v x ≡ t → t ≡ false
-        by-owned true e = let z : ⊥ = omega (arith, inside v x e) in absurd z
-        by-owned false e = refl
-
-    nothing : (k x : ℕ) → 1000 ≤ x → blocksFrom k v x ≡ []
-    nothing zero x m = refl
-    nothing (suc k) x m = rw (none-there v x 5 (foreign x m), blocksFrom) (nothing k (x + 1) (omega arith))
-
--- ---- bytes
-
-pub next-size : (v : List Cell) (problem number a n : ℕ) (bs : List Block)
-    → length (cardsFor v problem number (record { location = a; cells = n } ∷ bs)) ≡ 11 + 11 * n + length (cardsFor v problem (number + 1) bs)
-unfolding cardsFor
-next-size v problem number a n bs =
-    length-append (dataCard number a (wordsFrom v a n) problem) (cardsFor v problem (number + 1) bs)
-    ∙ ap (λ (k : ℕ). k + length (cardsFor v problem (number + 1) bs))
-    (length-data number a (wordsFrom v a n) problem ∙ ap (λ (k : ℕ). 11 + 11 * k) (words-long v a n))
-
--- of all cards of these blocks, whatever their numbers and their problem number
-unfoldable pub sizes : List Block → ℕ
-sizes [] = 0
-sizes (b ∷ bs) = 11 + 11 * b .cells + sizes bs
-
-pub cards-size : (v : List Cell) (problem number : ℕ) (bs : List Block) → length (cardsFor v problem number bs) ≡ sizes bs
-unfolding cardsFor sizes
-cards-size v problem number [] = refl
-cards-size v problem number (b ∷ bs) =
-    next-size v problem number (b .location) (b .cells) bs ∙ ap (λ (k : ℕ). 11 + 11 * b .cells + k) (cards-size v problem (number + 1) bs)
-
-pub deck-size : (v : List Cell) (order problem : ℕ) → length (deckMade v order problem) ≡ 7 + sizes (blocksIn v)
-unfolding deckMade
-deck-size v order problem =
-    length-append (cardsFor v problem 1 (blocksIn v)) (firstCard order problem)
-    ∙ omega (arith, length-first order problem, cards-size v problem 1 (blocksIn v))
-
--- where there is room for the deck, there is room for its data cards
-pub cards-fit : (v : List Cell) (order problem room : ℕ) → length (deckMade v order problem) ≤ room → length (cardsFor v problem 1 (blocksIn v)) ≤ room
-cards-fit v order problem room l = omega (arith, deck-size v order problem, cards-size v problem 1 (blocksIn v))
+none-ahead long l h = none-behind (h .cut) (omega arith)

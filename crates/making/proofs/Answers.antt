@@ -3,26 +3,15 @@ use Prim.Native.Nat.{ℕ, _≤_, _<_}
 use mathlib.Core.Path.{_≡_, refl, sym, ap, _∙_}
 use mathlib.Core.List.{List}
 use mathlib.Core.Bool.{true, false}
-use borrow.Author.Tests.{le-leb, lt-leb, leb-true}
+use borrow.Author.Tests.{le-leb, lt-leb}
 use lib.Dec.{leb}
 use lib.ListN.{length}
-use Rattle.rules.specs.Words.{both}
 use Rattle.rules.specs.Drum.{view, drumFits}
 use Rattle.rules.specs.Running.{over}
 use Rattle.rules.specs.Making.{MakeCall, deckMade, numbersFit, madeOf, made}
 use Rattle.rules.specs.declared.Making.the-variants.{Made, UnfitDrum, UnfitNumber, Full}
-use Rattle.rules.proofs.Tests.{both-first, both-second}
 use Rattle.drum.proofs.Begins.{begins}
 use Rattle.making.specs.Made.{MakeRight, Sound}
-
--- what the numbers are known to be
-pub in-range : (order problem : ℕ) → numbersFit order problem ≡ true → (1 ≤ order) × (order ≤ 999) × (problem ≤ 999)
-in-range order problem e =
-    let f = both-second (leb 1 order) (both (leb order 999) (leb problem 999)) e in (
-      leb-true 1 order (both-first (leb 1 order) (both (leb order 999) (leb problem 999)) e),
-      leb-true order 999 (both-first (leb order 999) (leb problem 999) f),
-      leb-true problem 999 (both-second (leb order 999) (leb problem 999) f),
-    )
 
 pub sound : (drum marks : List ℕ) → drumFits (length drum) marks (view drum marks) ≡ true → Sound drum marks
 sound drum marks e = let h = begins drum marks e in record { long = h .long; words = h .words }

@@ -11,9 +11,11 @@ use Rattle.rules.specs.Orders.{wordsFrom}
 use Rattle.rules.specs.Running.{over}
 use Rattle.rules.specs.Making.{Block, neighbours, blocksIn, cardsFor}
 use Rattle.rules.specs.declared.Cell.{Cell}
-use Rattle.rules.proofs.Fields.{length-data, length-first}
+use Rattle.rules.proofs.Fields.{length-first}
 use Rattle.rules.proofs.Parts.{partOf, putBack, part-is}
-use Rattle.rules.proofs.Punching.{words-long}
+use Rattle.rules.proofs.Punching.{card-bytes}
+use Rattle.rules.proofs.Blocks.{Ahead, all-ahead}
+use Rattle.rules.proofs.MadeSizes.{elevens, cards-bytes}
 use Rattle.bytes.specs.Put.{splice}
 use Rattle.bytes.proofs.Joins.{Put, length-splice, put-nothing, put-part, put-over, part-spliced}
 use Rattle.bytes.proofs.Splices.{splice-start}
@@ -22,7 +24,7 @@ use Rattle.card.proofs.Writes.{all-words, was-whole}
 use Rattle.drum.specs.Held.{Words}
 use Rattle.drum.specs.Blocks.{firstWords}
 use Rattle.drum.proofs.Runs.{gathered}
-use Rattle.making.proofs.Ahead.{Ahead, Next, passed, all-ahead, none-ahead, next-size}
+use Rattle.making.proofs.Ahead.{Next, passed, none-ahead}
 
 -- ---- a card that may be written, and has room, stands at its place
 
@@ -53,11 +55,9 @@ module _ (v : List Cell) (h : Words v) (words out : List ℕ) (at number a n pro
         le-leb problem 999 posed,
         all-words v a n h,
       ) in
-      let long : length (dataCard number a (wordsFrom v a n) problem) ≡ 11 + 11 * n =
-      length-data number a (wordsFrom v a n) problem ∙ ap (λ (k : ℕ). 11 + 11 * k) (words-long v a n) in
       stands at _ out p
       (subst (λ (ws : List ℕ). Wrote (dataMay number a words n problem) (dataCard number a ws problem) (partOf at out) said p) words-are w) may
-      (omega arith)
+      (omega (arith, card-bytes v number a n problem))
 
 -- an output in which a part is put is as long as it was
 put-long : {d p l : List ℕ} {a e : ℕ} → Put d a p e l → length l ≡ length d
@@ -125,11 +125,16 @@ module _ {v : List Cell} {problem : ℕ} {out₀ out : List ℕ} {at number a : 
     all-so = ap (λ (bs : List Block). h .sent ++ cardsFor v problem number bs) (sym (next .is)) ∙ h .all
 
     fits : at + (11 + 11 * n) ≤ length out₀
+    unfolding elevens
     fits =
-        let l : length (h .sent ++ cardsFor v problem number (record { location = a; cells = n } ∷ next .rest)) ≡ _ = ap length all-so in
-        let m = length-append (h .sent) (cardsFor v problem number (record { location = a; cells = n } ∷ next .rest)) in
-        let k = next-size v problem number a n (next .rest) in
-        omega (arith, h .put .ends)
+        let bs : List Block = record { location = a; cells = n } ∷ next .rest in
+        omega (
+          arith,
+          ap length all-so,
+          length-append (h .sent) (cardsFor v problem number bs),
+          cards-bytes v problem number bs,
+          h .put .ends,
+        )
 
     pub room-left : at + (11 + 11 * n) ≤ length out
     room-left = omega (arith, still-long, fits)
@@ -138,14 +143,12 @@ module _ {v : List Cell} {problem : ℕ} {out₀ out : List ℕ} {at number a : 
         → Written v problem out₀ out′ (at + (11 + 11 * n)) (number + 1) (a + n)
     unfolding cardsFor card
     written-more some e =
-        let long : length card ≡ 11 + 11 * n =
-        length-data number a (wordsFrom v a n) problem ∙ ap (λ (k : ℕ). 11 + 11 * k) (words-long v a n) in
         record {
           blocks = next .rest;
           ahead = next .ahead;
           sent = h .sent ++ card;
           all = append-assoc (h .sent) card (cardsFor v problem (number + 1) (next .rest)) ∙ all-so;
-          put = put-part card (11 + 11 * n) (h .put) e long refl fits;
+          put = put-part card (11 + 11 * n) (h .put) e (card-bytes v number a n problem) refl fits;
           low = omega arith;
           upto = omega (arith, h .upto);
         }

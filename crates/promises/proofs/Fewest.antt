@@ -1,99 +1,29 @@
 -- Why no deck for the same cells has fewer data cards than the one that is made: of the first cells of its cards no two can be on one card
--- of any deck, and each of them must be on some. And that its cards are for just the marked cells, each once. Assumes nothing.
+-- of any deck, and each of them must be on some. Assumes nothing.
 use Prim.Native.Nat.{ℕ, zero, suc, _+_, _≤_, _<_}
 use native.Mathlib.Omega.{arith}
-use mathlib.Core.Path.{_≡_, refl, sym, ap, subst, _∙_}
+use mathlib.Core.Path.{_≡_, refl, ap}
 use mathlib.Core.List.{List, [], _∷_, map}
 use mathlib.Core.Bool.{Bool, true, false}
-use lib.Dec.{eqb, leb, ltb}
-use lib.ListN.{length, length-map, List·getD-eq-default}
-use borrow.Author.Tests.{eqb-true, eqb-false, leb-true, le-leb, lt-leb, ltb-true, ltb-false, lt-ltb}
-use Rattle.rules.specs.Words.{pick, both}
-use Rattle.rules.specs.Drum.{view, cellAt, isOwned, markOf}
-use Rattle.rules.specs.Cards.{cardOf, cellsFit}
+use lib.Dec.{leb, ltb}
+use lib.ListN.{length, length-map}
+use borrow.Author.Tests.{leb-true, ltb-true}
+use Rattle.rules.specs.Words.{pick}
+use Rattle.rules.specs.Drum.{view, cellAt}
+use Rattle.rules.specs.Cards.{cardOf}
 use Rattle.rules.specs.Codes.{ownedAt}
 use Rattle.rules.specs.Decks.{cardSize, Piece, cutFrom, dataIn}
 use Rattle.rules.specs.Making.{Block, blocksIn}
 use Rattle.rules.specs.declared.Cell.{Cell}
-use Rattle.rules.specs.declared.Cell.the-variants.{Foreign, Owned}
 use Rattle.rules.specs.declared.Card.{Card}
 use Rattle.rules.specs.declared.Card.the-variants.{Data, First, Bad, End}
-use Rattle.rules.proofs.Tests.{false-true, both-first, both-second}
+use Rattle.rules.proofs.Tests.{both-first, both-second}
 use Rattle.rules.proofs.CardTrips.{data-read}
 use Rattle.rules.proofs.Decks.{piece}
-use Rattle.rules.proofs.Blocks.{run-inside, Cut, no-steps, passes, takes, cut-is, startsOf, Each, each-none, each-more, each-as, Spread, spread-none, spread-more, Apart, Start, starts-marked, starts-apart}
-use Rattle.promises.specs.Making.{mayBear, allMayBear, isAmong, times, EachOnce, Fewest, blockOf, blocksOf, HasThese, FewestOfDecks}
-
--- ---- marks
-
-mark-owned : (c : Cell) → isOwned c ≡ true → markOf c ≡ 1
-mark-owned Foreign e = false-true e
-mark-owned (Owned w) e = refl
-
-mark-foreign : (c : Cell) → isOwned c ≡ false → markOf c ≡ 0
-mark-foreign Foreign e = refl
-mark-foreign (Owned w) e = false-true (sym e)
-
-marked-owned : (c : Cell) → 1 ≤ markOf c → isOwned c ≡ true
-marked-owned Foreign l = let z : ⊥ = omega arith in absurd z
-marked-owned (Owned w) l = refl
-
--- ---- what a data card may be for
-
-may-bear : (a n : ℕ) → 1 ≤ n → n ≤ 5 → 1 ≤ a → a + n ≤ 1000 → mayBear (record { location = a; cells = n }) ≡ true
-may-bear a n some few from upto = simp (le-leb 1 n some, le-leb n 5 few, le-leb 1 a from, le-leb (a + n) 1000 upto)
-
--- what is known of such a card
-record Borne (b : Block) : Type 0 where
-  few : b .cells ≤ 5
-  from : 1 ≤ b .location
-
-borne : (b : Block) → mayBear b ≡ true → Borne b
-borne b e =
-    let sizes : Bool = both (leb 1 (b .cells)) (leb (b .cells) 5) in
-    let fits : Bool = cellsFit (b .location) (b .cells) in
-    record {
-      few = leb-true (b .cells) 5 (both-second (leb 1 (b .cells)) (leb (b .cells) 5) (both-first sizes fits e));
-      from = leb-true 1 (b .location) (both-first (leb 1 (b .location)) (leb (b .location + b .cells) 1000) (both-second sizes fits e));
-    }
-
--- ---- each once
-
-all-bear : {v : List Cell} {k a : ℕ} {bs : List Block} → Cut v k a bs → length v ≡ 1000 → 1 ≤ a → allMayBear bs ≡ true
-unfolding allMayBear
-all-bear no-steps l i = refl
-all-bear (passes o c) l i = all-bear c l (omega arith)
-all-bear (takes {a = a} {n = n} s r c) l i =
-    simp (may-bear a n s (r .few) i (omega (arith, run-inside s r)), all-bear c l (omega arith))
-
--- none of the cards is for a cell before them, and one is for each marked cell behind
-times-before : {v : List Cell} {k a : ℕ} {bs : List Block} → Cut v k a bs → (x : ℕ) → x < a → times bs x ≡ 0
-unfolding times
-times-before no-steps x l = refl
-times-before (passes o c) x l = times-before c x (omega arith)
-times-before (takes {a = a} s r c) x l = simp (lt-leb a x l, times-before c x (omega arith))
-
-times-from : {v : List Cell} {k a : ℕ} {bs : List Block} → Cut v k a bs → length v ≤ a + k → (x : ℕ) → a ≤ x
-    → times bs x ≡ markOf (cellAt v x)
-unfolding times
-times-from {v} no-steps l x i = sym (ap markOf (List·getD-eq-default v Foreign (omega arith)))
-times-from {v} {bs = bs} (passes {a = a} o c) l x i = by-first (eqb a x) refl (λ (j : a + 1 ≤ x). times-from c (omega arith) x j)
-  where
-    by-first : (t : Bool) → eqb a x ≡ t → (a + 1 ≤ x → times bs x ≡ markOf (cellAt v x)) → times bs x ≡ markOf (cellAt v x)
-    by-first true f go =
-        let e : a ≡ x = eqb-true a x f in
-        times-before c x (omega arith) ∙ sym (mark-foreign (cellAt v x) (subst (λ (y : ℕ). ownedAt v y ≡ false) e o))
-    by-first false f go = let d = eqb-false a x f in go (omega arith)
-times-from {v} (takes {a = a} {n = n} {bs = bs} s r c) l x i = by-end (ltb x (a + n)) refl (λ (j : a + n ≤ x). times-from c (omega arith) x j)
-  where
-    by-end : (t : Bool) → ltb x (a + n) ≡ t → (a + n ≤ x → times bs x ≡ markOf (cellAt v x))
-        → pick (isAmong (record { location = a; cells = n }) x) 1 0 + times bs x ≡ markOf (cellAt v x)
-    by-end true f go =
-        simp (le-leb a x i, f, times-before c x (ltb-true x (a + n) f)) (sym (mark-owned (cellAt v x) (r .owned x i (ltb-true x (a + n) f))))
-    by-end false f go = simp (le-leb a x i, f) (omega (arith, go (ltb-false x (a + n) f)))
-
-pub each-once : EachOnce
-each-once v l = (all-bear (cut-is v 999 1) l (omega arith), λ a i. times-from (cut-is v 999 1) (omega arith) a i)
+use Rattle.rules.proofs.Blocks.{all-ahead, startsOf, Each, each-none, each-more, each-as, Spread, spread-none, spread-more, Apart, Start, starts-marked, starts-apart}
+use Rattle.promises.specs.Making.{mayBear, allMayBear, isAmong, times, Fewest, blockOf, blocksOf, FewestOfDecks}
+use Rattle.promises.proofs.Shapes.{mark-owned, marked-owned, may-bear, Borne, borne, times-there}
+use Rattle.promises.proofs.Making.{has-these}
 
 -- ---- fewest
 
@@ -169,7 +99,7 @@ covered v [] bear owned apart (each-more p ps) = let z : ⊥ = omega arith in ab
 covered v (b ∷ bs) bear owned apart on =
     let h : Borne b = borne b (both-first (mayBear b) (allMayBear bs) bear) in
     let own : (x : ℕ) → b .location ≤ x → x < b .location + b .cells → ownedAt v x ≡ true =
-    λ x i l. owned x (omega (arith, h .from)) (simp (le-leb (b .location) x i, lt-ltb x (b .location + b .cells) l) (omega arith)) in
+    λ x i l. owned x (omega (arith, h .from)) (omega (arith, times-there b bs x i l)) in
     let rest =
     covered v bs (both-second (mayBear b) (allMayBear bs) bear) (λ x i l. owned x i (omega arith)) (spread-without b apart)
     (left-over b bs on) in
@@ -177,7 +107,7 @@ covered v (b ∷ bs) bear owned apart on =
 
 pub fewest : Fewest
 fewest v bs bear just =
-    let c = cut-is v 999 1 in
+    let c = all-ahead v .cut in
     let on : Each (λ (s : ℕ). 1 ≤ times bs s) (startsOf (blocksIn v)) =
     each-as (λ (s : ℕ) (h : Start v 1 s). omega (arith, just s (h .0), mark-owned (cellAt v s) (h .1))) (starts-marked c) in
     omega (
@@ -222,7 +152,7 @@ cut-bears zero at (b ∷ d) =
 decks-bear : (deck : List ℕ) → allMayBear (blocksOf deck) ≡ true
 decks-bear deck = cut-bears 0 0 deck
 
-pub fewest-of-decks-from : HasThese → FewestOfDecks
-fewest-of-decks-from these c n e deck just =
+pub fewest-of-decks : FewestOfDecks
+fewest-of-decks c n e deck just =
     let v : List Cell = view (c .drum) (c .marks) in
-    omega (arith, ap length (these c n e), fewest v (blocksOf deck) (decks-bear deck) just)
+    omega (arith, ap length (has-these c n e), fewest v (blocksOf deck) (decks-bear deck) just)

@@ -15,6 +15,6 @@ pub mod Again
 pub mod Barred
 pub mod Beside
 pub mod Rooms
-pub mod Fewest
-pub mod MadeRooms
+pub mod Shapes
 pub mod Making
+pub mod Fewest

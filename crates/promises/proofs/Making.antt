@@ -1,6 +1,6 @@
 -- What a made deck is worth. A call that says how many bytes it made has passed its checks, and its output begins with the deck; that deck
--- is good, has a card for each block, and stores each block's words. Assumes nothing.
-use Prim.Native.Nat.{ℕ, _≤_}
+-- is good, has a card for each block, stores each block's words, and is never longer than 13,196 bytes. Assumes nothing.
+use Prim.Native.Nat.{ℕ, _≤_, _<_}
 use mathlib.Core.Path.{_≡_, refl, sym, ap, ap₂, subst, _∙_}
 use mathlib.Core.List.{List, _∷_, _++_, map}
 use mathlib.Core.Bool.{Bool, true, false}
@@ -8,8 +8,8 @@ use native.Mathlib.Omega.{arith}
 use lib.Dec.{leb}
 use lib.ListN.{length, getD, take, drop, length-append, length-drop}
 use lib.Seq.{take-at, drop-at}
-use borrow.Author.Tests.{leb-true}
-use Rattle.rules.specs.Words.{pick, both}
+use borrow.Author.Tests.{leb-true, leb-false}
+use Rattle.rules.specs.Words.{pick}
 use Rattle.rules.specs.Drum.{cellOf, view, cellAt, markOf, numberOver, overlay, drumFits}
 use Rattle.rules.specs.Decks.{DataCard, dataFrom, deckOf}
 use Rattle.rules.specs.Running.{over}
@@ -20,12 +20,12 @@ use Rattle.rules.specs.declared.State.{State}
 use Rattle.rules.specs.declared.Deck.the-variants.{Good}
 use Rattle.rules.specs.declared.Making.{Making}
 use Rattle.rules.specs.declared.Making.the-variants.{Made, UnfitDrum, UnfitNumber, Full}
-use Rattle.rules.proofs.Tests.{both-first, both-second}
 use Rattle.rules.proofs.Views.{Fit, fit, length-view, marks-again}
+use Rattle.rules.proofs.MadeSizes.{made-short}
 use Rattle.rules.proofs.MadeCells.{AllBear, no-card, one-card, Given, given-back, cell-at, mark-at, number-at}
-use Rattle.rules.proofs.MadeDecks.{deck-good, deck-bears}
+use Rattle.rules.proofs.MadeDecks.{deck-good, deck-bears, in-range}
 use Rattle.promises.specs.Calls.{loadOf}
-use Rattle.promises.specs.Making.{blockOf, HasThese, Restored, MadeIsGood, LoadsTheSame, RefusedMakeWritesNothing, MadePastUntouched}
+use Rattle.promises.specs.Making.{blockOf, HasThese, Restored, MadeIsGood, LoadsTheSame, RefusedMakeWritesNothing, MadePastUntouched, longestMade, RoomEnough}
 
 -- ---- what the checks of a call found
 
@@ -34,6 +34,9 @@ cellsOf c = view (c .drum) (c .marks)
 
 abbrev deckFor : MakeCall → List ℕ
 deckFor c = deckMade (cellsOf c) (c .order) (c .problem)
+
+cells-long : (c : MakeCall) → Fit (c .drum) (c .marks) → length (cellsOf c) ≡ 1000
+cells-long c f = length-view (c .drum) (c .marks) (f .drum-long ∙ sym (f .marks-long)) ∙ f .drum-long
 
 record Passed (c : MakeCall) : Type 0 where
   lent : Fit (c .drum) (c .marks)
@@ -45,38 +48,46 @@ record Passed (c : MakeCall) : Type 0 where
 passed : (c : MakeCall) → drumFits (length (c .drum)) (c .marks) (cellsOf c) ≡ true → numbersFit (c .order) (c .problem) ≡ true
     → leb (length (deckFor c)) (length (c .out)) ≡ true → Passed c
 passed c d n r =
-    let rest = both-second (leb 1 (c .order)) (both (leb (c .order) 999) (leb (c .problem) 999)) n in
+    let k = in-range (c .order) (c .problem) n in
     record {
       lent = fit (c .drum) (c .marks) d;
-      from = leb-true 1 (c .order) (both-first (leb 1 (c .order)) (both (leb (c .order) 999) (leb (c .problem) 999)) n);
-      upto = leb-true (c .order) 999 (both-first (leb (c .order) 999) (leb (c .problem) 999) rest);
-      posed = leb-true (c .problem) 999 (both-second (leb (c .order) 999) (leb (c .problem) 999) rest);
+      from = k .0;
+      upto = k .1;
+      posed = k .2;
       room = leb-true (length (deckFor c)) (length (c .out)) r;
     }
 
 abbrev madeAs : MakeCall → MakeResult
 madeAs c = record { making = Made (length (deckFor c)); out = over (deckFor c) (c .out) }
 
-abbrev Refuses : Making → Type 0
-Refuses x = (n : ℕ) → x ≡ Made n → ⊥
+-- why none is made
+data Refused (c : MakeCall) : Making → Type 0 where
+  drum-unfit : Refused c UnfitDrum
+  number-unfit : Refused c UnfitNumber
+  too-long : Fit (c .drum) (c .marks) → length (c .out) < length (deckFor c) → Refused c Full
+
+not-made : {c : MakeCall} {x : Making} {n : ℕ} → Refused c x → x ≡ Made n → ⊥
+not-made drum-unfit e = let z : _≡_ {A = ℕ} 0 1 = cc in omega arith
+not-made number-unfit e = let z : _≡_ {A = ℕ} 0 1 = cc in omega arith
+not-made (too-long f l) e = let z : _≡_ {A = ℕ} 0 1 = cc in omega arith
 
 -- What is said of a call's result where no deck is made, and where one is made, is said of each.
-module _ (P : MakeResult → Type 0) (c : MakeCall) (not : (x : Making) → Refuses x → P (notMade c x)) (did : Passed c → P (madeAs c)) where
+module _ (P : MakeResult → Type 0) (c : MakeCall) (not : (x : Making) → Refused c x → P (notMade c x)) (did : Passed c → P (madeAs c)) where
   by-room : drumFits (length (c .drum)) (c .marks) (cellsOf c) ≡ true → numbersFit (c .order) (c .problem) ≡ true
       → (t : Bool) → leb (length (deckFor c)) (length (c .out)) ≡ t → P (pick t (madeAs c) (notMade c Full))
   by-room d n true e = did (passed c d n e)
-  by-room d n false e = not Full (λ k q. let z : _≡_ {A = ℕ} 0 1 = cc in omega arith)
+  by-room d n false e = not Full (too-long (fit (c .drum) (c .marks) d) (leb-false (length (deckFor c)) (length (c .out)) e))
 
   by-numbers : drumFits (length (c .drum)) (c .marks) (cellsOf c) ≡ true → (t : Bool) → numbersFit (c .order) (c .problem) ≡ t
       → P (pick t (madeOf c (deckFor c)) (notMade c UnfitNumber))
   unfolding madeOf
   by-numbers d true e = by-room d e (leb (length (deckFor c)) (length (c .out))) refl
-  by-numbers d false e = not UnfitNumber (λ k q. let z : _≡_ {A = ℕ} 0 1 = cc in omega arith)
+  by-numbers d false e = not UnfitNumber number-unfit
 
   by-drum : (t : Bool) → drumFits (length (c .drum)) (c .marks) (cellsOf c) ≡ t
       → P (pick t (pick (numbersFit (c .order) (c .problem)) (madeOf c (deckFor c)) (notMade c UnfitNumber)) (notMade c UnfitDrum))
   by-drum true e = by-numbers e (numbersFit (c .order) (c .problem)) refl
-  by-drum false e = not UnfitDrum (λ k q. let z : _≡_ {A = ℕ} 0 1 = cc in omega arith)
+  by-drum false e = not UnfitDrum drum-unfit
 
   of-make : P (made c)
   unfolding made
@@ -94,7 +105,7 @@ same-made e = cc
 done : (c : MakeCall) (n : ℕ) → made c .making ≡ Made n → Done c n (made c)
 unfolding over
 done c n =
-    of-make (λ (x : MakeResult). x .making ≡ Made n → Done c n x) c (λ x r e. absurd (r n e))
+    of-make (λ (x : MakeResult). x .making ≡ Made n → Done c n x) c (λ x r e. absurd (not-made r e))
     (λ p e. record {
       checks = p;
       long = same-made e;
@@ -102,23 +113,22 @@ done c n =
     })
 
 module _ (c : MakeCall) (n : ℕ) (h : Done c n (made c)) where
-  cells-long : length (cellsOf c) ≡ 1000
-  cells-long = length-view (c .drum) (c .marks) (h .checks .lent .drum-long ∙ sym (h .checks .lent .marks-long)) ∙ h .checks .lent .drum-long
-
   deck-is : take n (made c .out) ≡ deckFor c
   deck-is = ap (take n) (h .out-is) ∙ take-at (deckFor c) (drop n (c .out)) n (h .long)
 
   is-good : deckOf (take n (made c .out)) ≡ Good n (c .order) (c .problem)
   is-good =
+      let p = h .checks in
       ap deckOf deck-is
-      ∙ deck-good (cellsOf c) (c .order) (c .problem) cells-long (h .checks .lent .words-fit) (h .checks .from) (h .checks .upto) (h .checks .posed)
+      ∙ deck-good (cellsOf c) (c .order) (c .problem) (cells-long c (p .lent)) (p .lent .words-fit) (p .from) (p .upto) (p .posed)
       ∙ ap (λ (k : ℕ). Good k (c .order) (c .problem)) (h .long)
 
   bears : AllBear (cellsOf c) n (dataFrom (take n (made c .out)) 0) (blocksIn (cellsOf c))
   bears =
+      let p = h .checks in
       subst (λ (d : List ℕ). AllBear (cellsOf c) n (dataFrom d 0) (blocksIn (cellsOf c))) (sym deck-is)
       (subst (λ (k : ℕ). AllBear (cellsOf c) k (dataFrom (deckFor c) 0) (blocksIn (cellsOf c))) (h .long)
-      (deck-bears (cellsOf c) (c .order) (c .problem) cells-long (h .checks .lent .words-fit) (h .checks .from) (h .checks .upto) (h .checks .posed)))
+      (deck-bears (cellsOf c) (c .order) (c .problem) (cells-long c (p .lent)) (p .lent .words-fit) (p .from) (p .upto) (p .posed)))
 
 pub made-is-good : MadeIsGood
 made-is-good c n e = is-good c n (done c n e)
@@ -149,7 +159,7 @@ module _ (c : MakeCall) (n : ℕ) (h : Done c n (made c)) (drum marks : List ℕ
 
   given : Given (cellsOf c) cells
   given =
-      given-back (cellsOf c) (view drum marks) (bears c n h) (cells-long c n h) (length-view drum marks same-long ∙ there .drum-long)
+      given-back (cellsOf c) (view drum marks) (bears c n h) (cells-long c (h .checks .lent)) (length-view drum marks same-long ∙ there .drum-long)
       (λ x. cell-at drum marks x same-long ∙ ap (λ (m : ℕ). cellOf m (getD drum x 0)) (clear x))
 
   -- what a cell holds after the load, and what it held where the deck was made
@@ -202,3 +212,13 @@ made-past-untouched c n e =
           ∙ omega (arith, length-drop n (c .out));
       past = ap (drop n) (h .out-is) ∙ drop-at (deckFor c) (drop n (c .out)) n (h .long);
     }
+
+-- a deck is refused for its room only where it is longer than that, and none that is made is longer than 13,196 bytes
+room-for : {c : MakeCall} {x : Making} → longestMade ≤ length (c .out) → Refused c x → x ≡ Full → ⊥
+room-for l drum-unfit e = let z : _≡_ {A = ℕ} 0 1 = cc in omega arith
+room-for l number-unfit e = let z : _≡_ {A = ℕ} 0 1 = cc in omega arith
+room-for {c} l (too-long f g) e = omega (arith, made-short (cellsOf c) (c .order) (c .problem) (cells-long c f))
+
+pub room-enough : RoomEnough
+room-enough c l =
+    of-make (λ (x : MakeResult). x .making ≡ Full → ⊥) c (λ x r. room-for l r) (λ p e. let z : _≡_ {A = ℕ} 0 1 = cc in omega arith)

@@ -1,13 +1,13 @@
--- What a deck made of a drum's marked cells is worth: no deck for these cells has fewer data cards, and loading it gives them back. And
--- what making leaves: a refused call writes nothing, what is past the deck is untouched, and 13,196 bytes are always room enough.
--- Assumes nothing.
+-- What a deck made of a drum's marked cells is worth: which cards it has, that no deck for these cells has fewer data cards, and that
+-- loading it gives them back. And what making leaves: a refused call writes nothing, what is past the deck is untouched, and 13,196 bytes
+-- are always room enough. Assumes nothing.
 use Prim.Native.Nat.{ℕ, _+_, _≤_}
 use mathlib.Core.Path.{_≡_}
 use mathlib.Core.List.{List, [], _∷_, map}
 use mathlib.Core.Bool.{Bool, true}
-use lib.Dec.{leb, ltb}
+use lib.Dec.{eqb, leb, ltb}
 use lib.ListN.{length, getD, take, drop}
-use Rattle.rules.specs.Words.{pick, both}
+use Rattle.rules.specs.Words.{pick, both, either}
 use Rattle.rules.specs.Drum.{view, cellAt, markOf, drumFits}
 use Rattle.rules.specs.Cards.{cellsFit}
 use Rattle.rules.specs.Decks.{DataCard, dataFrom, deckOf}
@@ -20,7 +20,7 @@ use Rattle.rules.specs.declared.Loading.the-variants.{Loaded}
 use Rattle.rules.specs.declared.Making.the-variants.{Made, Full}
 use Rattle.promises.specs.Calls.{loadOf}
 
--- ---- fewest
+-- ---- which cards
 
 -- whether a data card may be for these cells: one to five of them, within 001 to 999
 abbrev pub mayBear : Block → Bool
@@ -47,7 +47,26 @@ ForJust v bs = (a : ℕ) → 1 ≤ a → times bs a ≡ markOf (cellAt v a)
 abbrev pub EachOnce : Type 0
 EachOnce = (v : List Cell) → length v ≡ 1000 → (allMayBear (blocksIn v) ≡ true) × ForJust v (blocksIn v)
 
--- and no other cards for just these, each once, are fewer.
+-- whether a card has five cells, unless the cell behind its last is unmarked
+abbrev pub isWhole : List Cell → Block → Bool
+isWhole v b = either (eqb (b .cells) 5) (eqb (markOf (cellAt v (b .location + b .cells))) 0)
+
+-- whether the cards ascend from the cell a on, and each of them is whole
+unfoldable pub inOrder : List Cell → ℕ → List Block → Bool
+inOrder v a [] = true
+inOrder v a (b ∷ bs) = both (leb a (b .location)) (both (isWhole v b) (inOrder v (b .location + b .cells) bs))
+
+-- They ascend, and each run of neighbours is cut into cards of five with the rest on the last;
+abbrev pub RestLast : Type 0
+RestLast = (v : List Cell) → inOrder v 1 (blocksIn v) ≡ true
+
+-- and no other cards do: what is said so far leaves no choice.
+abbrev pub OnlyThese : Type 0
+OnlyThese = (v : List Cell) (bs : List Block) → allMayBear bs ≡ true → ForJust v bs → inOrder v 1 bs ≡ true → bs ≡ blocksIn v
+
+-- ---- fewest
+
+-- No cards for just the marked cells, each once, are fewer.
 abbrev pub Fewest : Type 0
 Fewest = (v : List Cell) (bs : List Block) → allMayBear bs ≡ true → ForJust v bs → length (blocksIn v) ≤ length bs
 

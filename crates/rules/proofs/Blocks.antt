@@ -9,14 +9,22 @@ use lib.Dec.{eqb, ltb}
 use lib.ListN.{length, List·getD-eq-default}
 use borrow.Author.Tests.{eqb-true, eqb-false, ltb-true, ltb-false}
 use Rattle.rules.specs.Words.{pick}
-use Rattle.rules.specs.Drum.{isOwned}
+use Rattle.rules.specs.Drum.{isOwned, shown}
 use Rattle.rules.specs.Codes.{ownedAt}
-use Rattle.rules.specs.Making.{neighbours, Block, blocksFrom}
+use Rattle.rules.specs.Making.{neighbours, Block, blocksFrom, blocksIn}
 use Rattle.rules.specs.declared.Cell.{Cell}
-use Rattle.rules.specs.declared.Cell.the-variants.{Foreign}
+use Rattle.rules.specs.declared.Cell.the-variants.{Foreign, Owned}
 use Rattle.rules.proofs.Tests.{false-true}
 
--- ---- neighbours
+-- ---- marked and unmarked
+
+pub owned-is : (c : Cell) → isOwned c ≡ true → Owned (shown c) ≡ c
+owned-is Foreign e = false-true e
+owned-is (Owned w) e = refl
+
+pub foreign-is : (c : Cell) → isOwned c ≡ false → c ≡ Foreign
+foreign-is Foreign e = refl
+foreign-is (Owned w) e = false-true (sym e)
 
 -- no cell behind the last is marked
 pub owned-inside : (v : List Cell) (x : ℕ) → ownedAt v x ≡ true → x < length v
@@ -26,6 +34,8 @@ owned-inside v x e = by-place (ltb x (length v)) refl
     by-place true f = ltb-true x (length v) f
     by-place false f = false-true (sym (ap isOwned (List·getD-eq-default v Foreign (ltb-false x (length v) f))) ∙ e)
 
+-- ---- neighbours
+
 -- n marked cells from a on, of at most so many; and if they are fewer, no marked one follows
 pub record Run (v : List Cell) (a n most : ℕ) : Type 0 where
   pub few : n ≤ most
@@ -34,6 +44,19 @@ pub record Run (v : List Cell) (a n most : ℕ) : Type 0 where
 
 pub run-inside : {v : List Cell} {a n : ℕ} → 1 ≤ n → Run v a n 5 → a + n ≤ length v
 run-inside {v} {a} {n} s r = omega (arith, owned-inside v (a + (n - 1)) (r .owned (a + (n - 1)) (omega arith) (omega arith)))
+
+-- from one cell on there is only one
+no-longer : {v : List Cell} {a n m most : ℕ} → Run v a n most → Run v a m most → m ≤ n
+no-longer {v} {a} {n} {m} r q = by-end (ltb n m) refl
+  where
+    by-end : (t : Bool) → ltb n m ≡ t → m ≤ n
+    by-end true f =
+        let l = ltb-true n m f in
+        false-true (sym (r .ends (omega (arith, q .few))) ∙ q .owned (a + n) (omega arith) (omega arith))
+    by-end false f = ltb-false n m f
+
+pub one-run : {v : List Cell} {a n m most : ℕ} → Run v a n most → Run v a m most → n ≡ m
+one-run r q = omega (arith, no-longer r q, no-longer q r)
 
 pub run-of : (v : List Cell) (a most : ℕ) → Run v a (neighbours v a most) most
 unfolding neighbours
@@ -70,7 +93,7 @@ pub data Cut (v : List Cell) : ℕ → ℕ → List Block → Type 0 where
       {k a n : ℕ} {bs : List Block} → 1 ≤ n → Run v a n 5 → Cut v k (a + n) bs
       → Cut v (suc k) a (record { location = a; cells = n } ∷ bs)
 
-pub cut-is : (v : List Cell) (k a : ℕ) → Cut v k a (blocksFrom k v a)
+cut-is : (v : List Cell) (k a : ℕ) → Cut v k a (blocksFrom k v a)
 unfolding blocksFrom
 cut-is v zero a = no-steps
 cut-is v (suc k) a = by-run (neighbours v a 5) refl (run-of v a 5) (λ (n : ℕ). cut-is v k (a + n))
@@ -81,6 +104,18 @@ cut-is v (suc k) a = by-run (neighbours v a 5) refl (run-of v a 5) (λ (n : ℕ)
         let none : ownedAt v a ≡ false = subst (λ (x : ℕ). ownedAt v x ≡ false) (omega arith) (r .ends (omega arith)) in
         rw (e, blocksFrom) (passes none (go 1))
     by-run (suc n) e r go = rw (e, blocksFrom) (takes {n = suc n} (omega arith) r (go (suc n)))
+
+-- from the cell a on these cards are ahead, and there are steps enough to the last cell
+pub record Ahead (v : List Cell) (a : ℕ) (bs : List Block) : Type 0 where
+  pub steps : ℕ
+  pub enough : 1000 ≤ a + steps
+  pub cut : Cut v steps a bs
+
+steps-ahead : (v : List Cell) (k a : ℕ) → 1000 ≤ a + k → Ahead v a (blocksFrom k v a)
+steps-ahead v k a l = record { steps = k; enough = l; cut = cut-is v k a }
+
+pub all-ahead : (v : List Cell) → Ahead v 1 (blocksIn v)
+all-ahead v = steps-ahead v _ _ (omega arith)
 
 -- there is no card behind the last cell
 pub none-behind : {v : List Cell} {k a : ℕ} {bs : List Block} → Cut v k a bs → length v ≤ a → bs ≡ []

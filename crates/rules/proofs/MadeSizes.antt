@@ -14,9 +14,9 @@ use Rattle.rules.specs.Orders.{wordsFrom}
 use Rattle.rules.specs.Making.{Block, blocksIn, cardsFor, deckMade}
 use Rattle.rules.specs.declared.Cell.{Cell}
 use Rattle.rules.proofs.Tests.{false-true}
-use Rattle.rules.proofs.Fields.{length-data, length-first}
-use Rattle.rules.proofs.Punching.{words-long}
-use Rattle.rules.proofs.Blocks.{run-inside, Cut, no-steps, passes, takes, cut-is, none-behind}
+use Rattle.rules.proofs.Fields.{length-first}
+use Rattle.rules.proofs.Punching.{card-bytes}
+use Rattle.rules.proofs.Blocks.{run-inside, Cut, no-steps, passes, takes, all-ahead, none-behind}
 
 -- the elevens of bytes that these cards have: one for each cell, and one for each card
 unfoldable pub elevens : List Block → ℕ
@@ -27,9 +27,14 @@ pub cards-bytes : (v : List Cell) (problem number : ℕ) (bs : List Block) → l
 unfolding cardsFor elevens
 cards-bytes v problem number [] = refl
 cards-bytes v problem number (b ∷ bs) =
-    let ws : List ℕ = wordsFrom v (b .location) (b .cells) in
-    length-append (dataCard number (b .location) ws problem) (cardsFor v problem (number + 1) bs)
-    ∙ omega (arith, length-data number (b .location) ws problem, words-long v (b .location) (b .cells), cards-bytes v problem (number + 1) bs)
+    length-append (dataCard number (b .location) (wordsFrom v (b .location) (b .cells)) problem) (cardsFor v problem (number + 1) bs)
+    ∙ omega (arith, card-bytes v number (b .location) (b .cells) problem, cards-bytes v problem (number + 1) bs)
+
+pub deck-bytes : (v : List Cell) (order problem : ℕ) → length (deckMade v order problem) ≡ 7 + 11 * elevens (blocksIn v)
+unfolding deckMade
+deck-bytes v order problem =
+    length-append (cardsFor v problem 1 (blocksIn v)) (firstCard order problem)
+    ∙ omega (arith, length-first order problem, cards-bytes v problem 1 (blocksIn v))
 
 -- of those from a on there are at most so many, and fewer where a is unmarked
 record Few (v : List Cell) (a n : ℕ) : Type 0 where
@@ -59,8 +64,6 @@ few-from {v} (takes {a = a} {n = n} {bs = bs} s r c) l u =
     by-five false f rest = omega (arith, rest .all, ltb-false n 5 f, r .few)
 
 pub made-short : (v : List Cell) (order problem : ℕ) → length v ≡ 1000 → length (deckMade v order problem) ≤ 13196
-unfolding deckMade
 made-short v order problem l =
-    let r : Few v 1 (elevens (blocksIn v)) = few-from (cut-is v 999 1) l (omega arith) in
-    let joined = length-append (cardsFor v problem 1 (blocksIn v)) (firstCard order problem) in
-    omega (arith, cards-bytes v problem 1 (blocksIn v), length-first order problem, r .all)
+    let r : Few v 1 (elevens (blocksIn v)) = few-from (all-ahead v .cut) l (omega arith) in
+    omega (arith, deck-bytes v order problem, r .all)

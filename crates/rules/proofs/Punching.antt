@@ -9,6 +9,7 @@ use lib.ListN.{length, length-append}
 use borrow.Author.Tests.{leb-true, eqb-true, eqb-false, ltb-true, ltb-false}
 use Rattle.rules.specs.Words.{pick, both}
 use Rattle.rules.specs.Drum.{wordAt}
+use Rattle.rules.specs.Cards.{dataCard}
 use Rattle.rules.specs.Codes.{Row, codes, lookup, pchCode, noopCode, codeIn, checked, andThen, unless, blockFits, ownedFrom}
 use Rattle.rules.specs.Machine.{Machine}
 use Rattle.rules.specs.Orders.{wordsFrom, five, cardPunched, cardsPunched, punchSize}
@@ -116,11 +117,11 @@ unfolding wordsFrom
 words-long v b zero = refl
 words-long v b (suc n) = length-append (wordsFrom v b n) (wordAt v (b + n) ∷ []) ∙ omega (arith, words-long v b n)
 
+pub card-bytes : (v : List Cell) (number b n problem : ℕ) → length (dataCard number b (wordsFrom v b n) problem) ≡ 11 + 11 * n
+card-bytes v number b n problem = length-data number b (wordsFrom v b n) problem ∙ ap (λ (k : ℕ). 11 + 11 * k) (words-long v b n)
+
 card-long : (m : Machine) (b n : ℕ) → length (cardPunched m b n .sent) ≡ length (m .sent) + (11 + 11 * n)
-card-long m b n =
-    length-append (m .sent) _
-    ∙ ap (λ (k : ℕ). length (m .sent) + k)
-    (length-data _ b (wordsFrom (m .cells) b n) _ ∙ ap (λ (k : ℕ). 11 + 11 * k) (words-long (m .cells) b n))
+card-long m b n = length-append (m .sent) _ ∙ ap (λ (k : ℕ). length (m .sent) + k) (card-bytes (m .cells) _ b n _)
 
 five-fits : (n : ℕ) → 1 ≤ n → (1 ≤ five n) × (five n ≤ n) × (punchSize n ≡ 11 + 11 * five n + punchSize (n - five n))
 five-fits n l = by-few (ltb n 5) refl

@@ -25,7 +25,7 @@ pub record Cells (v : List Cell) : Type 0 where
   pub words : (a : ℕ) → wordAt v a ≤ 19999999999
   pub owned : isOwned (cellAt v 0) ≡ true
 
-all-words : (v : List Cell) → wordsFit v ≡ true → (a : ℕ) → wordAt v a ≤ 19999999999
+pub all-words : (v : List Cell) → wordsFit v ≡ true → (a : ℕ) → wordAt v a ≤ 19999999999
 unfolding wordsFit
 all-words [] e a = omega arith
 all-words (Foreign ∷ v) e zero = omega arith

@@ -1,5 +1,4 @@
 -- `making::make` meets its contract: the drum, the numbers or the room does not do, or the whole deck is written. Assumes nothing.
-use Prim.Native.Nat.{_≤_}
 use mathlib.Core.Path.{_≡_, sym, _∙_}
 use mathlib.Core.Bool.{true}
 use native.Mathlib.Omega.{arith}
@@ -8,7 +7,8 @@ use borrow.Author.Tests.{not-true, not-false}
 use lib.ListN.{length}
 use Rattle.rules.specs.Drum.{view, drumFits}
 use Rattle.rules.specs.Making.{MakeCall, numbersFit}
-use Rattle.making.proofs.Answers.{in-range, sound, drum-unfit, number-unfit, too-long, was-made}
+use Rattle.rules.proofs.MadeDecks.{in-range}
+use Rattle.making.proofs.Answers.{sound, drum-unfit, number-unfit, too-long, was-made}
 use Rattle.making.proofs.make.Statement.{statement}
 use Rattle.making.proofs.make.Tie as tie
 

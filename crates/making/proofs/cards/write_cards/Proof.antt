@@ -1,11 +1,13 @@
 -- `making::write_cards` meets its contract: before each turn what stands in the output, with the cards ahead behind it, is all cards.
 -- Assumes nothing.
-use Prim.Native.Nat.{ℕ, _+_, _-_, _*_, _≤_}
-use mathlib.Core.Path.{_≡_, refl, sym, ap, _∙_}
+use Prim.Native.Nat.{_+_, _-_, _*_, _≤_}
+use mathlib.Core.Path.{sym, _∙_}
 use native.Mathlib.Omega.{arith}
 use lib.ListN.{length}
 use Rattle.rules.specs.Drum.{view}
-use Rattle.making.proofs.Ahead.{Next, come-upon, within}
+use Rattle.rules.specs.Making.{neighbours}
+use Rattle.rules.proofs.Blocks.{run-inside, run-of}
+use Rattle.making.proofs.Ahead.{Next, come-upon}
 use Rattle.making.proofs.Writing.{Written, none-written, still-long, written-on, room-left, written-more, all-written}
 use Rattle.making.proofs.cards.write_cards.Statement.{statement}
 use Rattle.making.proofs.cards.write_cards.Tie as tie
@@ -51,7 +53,9 @@ top c =
     let card : tie.After-card-from Inv-loop μ-loop = search in
     let v = view (start .args .drum .now) (start .args .marks .now) in
     let long = start .pre .0 .long in
-    omega (arith, within v (at .loop .a) 5 (omega (arith, long)), long, card .card-from .ensures .0)
+    let same = card .card-from .ensures .0 in
+    let some : 1 ≤ neighbours v (at .loop .a) 5 = omega (arith, same, c .if1 .left) in
+    omega (arith, run-inside some (run-of v (at .loop .a) 5), long, same)
 
 room : (c : tie.Else1 Inv-loop μ-loop)
     → let at : tie.At-loop Inv-loop μ-loop = search in

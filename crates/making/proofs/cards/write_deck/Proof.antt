@@ -5,7 +5,7 @@ use borrow.Author.Needs.{needs}
 use lib.ListN.{length}
 use Rattle.rules.specs.Drum.{view}
 use Rattle.rules.specs.Making.{blocksIn, cardsFor, deckMade}
-use Rattle.making.proofs.Ahead.{cards-fit}
+use Rattle.rules.proofs.MadeSizes.{cards-bytes, deck-bytes}
 use Rattle.making.proofs.Writing.{first-stands}
 use Rattle.making.proofs.cards.write_deck.Statement.{statement}
 use Rattle.making.proofs.cards.write_deck.Tie as tie
@@ -13,7 +13,9 @@ use Rattle.making.proofs.cards.write_deck.Tie as tie
 room : (c : tie.Start)
     → length (cardsFor (view (c .args .drum .now) (c .args .marks .now)) (c .args .problem) 1 (blocksIn (view (c .args .drum .now) (c .args .marks .now))))
     ≤ length (c .args .out .now)
-room c = cards-fit _ (c .args .order) (c .args .problem) _ (c .pre .1 .1)
+room c =
+    let v = view (c .args .drum .now) (c .args .marks .now) in
+    omega (arith, deck-bytes v (c .args .order) (c .args .problem), cards-bytes v (c .args .problem) 1 (blocksIn v), c .pre .1 .1)
 
 write-cards-requires : tie.Need-write-cards-requires
 write-cards-requires c κs = let start : tie.Start = search in (start .pre .0, (start .pre .1 .0 .2, room start))
