@@ -16,5 +16,6 @@ pub mod Barred
 pub mod Beside
 pub mod Rooms
 pub mod Shapes
+pub mod SameDecks
 pub mod Making
 pub mod Fewest

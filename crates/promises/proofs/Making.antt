@@ -1,6 +1,6 @@
 -- What a made deck is worth. A call that says how many bytes it made has passed its checks, and its output begins with the deck; that deck
 -- is good, has a card for each block, stores each block's words, and is never longer than 13,196 bytes. Assumes nothing.
-use Prim.Native.Nat.{ℕ, _≤_, _<_}
+use Prim.Native.Nat.{ℕ, zero, suc, _≤_, _<_}
 use mathlib.Core.Path.{_≡_, refl, sym, ap, ap₂, subst, _∙_}
 use mathlib.Core.List.{List, _∷_, _++_, map}
 use mathlib.Core.Bool.{Bool, true, false}
@@ -8,9 +8,9 @@ use native.Mathlib.Omega.{arith}
 use lib.Dec.{leb}
 use lib.ListN.{length, getD, take, drop, length-append, length-drop}
 use lib.Seq.{take-at, drop-at}
-use borrow.Author.Tests.{leb-true, leb-false}
+use borrow.Author.Tests.{leb-true, leb-false, le-leb, eq-eqb}
 use Rattle.rules.specs.Words.{pick}
-use Rattle.rules.specs.Drum.{cellOf, view, cellAt, markOf, numberOver, overlay, drumFits}
+use Rattle.rules.specs.Drum.{cellOf, view, cellAt, shown, wordAt, markOf, marksOf, numberOver, overlay, drumFits}
 use Rattle.rules.specs.Decks.{DataCard, dataFrom, deckOf}
 use Rattle.rules.specs.Running.{over}
 use Rattle.rules.specs.Loads.{cellsLoaded, loadedFrom, loaded}
@@ -20,12 +20,14 @@ use Rattle.rules.specs.declared.State.{State}
 use Rattle.rules.specs.declared.Deck.the-variants.{Good}
 use Rattle.rules.specs.declared.Making.{Making}
 use Rattle.rules.specs.declared.Making.the-variants.{Made, UnfitDrum, UnfitNumber, Full}
-use Rattle.rules.proofs.Views.{Fit, fit, length-view, marks-again}
+use Rattle.rules.proofs.Views.{length-overlay, Fit, fit, length-view, length-marks, marks-again, view-again}
+use Rattle.rules.proofs.Sound.{all-words, words-fit, marks-of-fit}
 use Rattle.rules.proofs.MadeSizes.{made-short}
 use Rattle.rules.proofs.MadeCells.{AllBear, no-card, one-card, Given, given-back, cell-at, mark-at, number-at}
 use Rattle.rules.proofs.MadeDecks.{deck-good, deck-bears, in-range}
-use Rattle.promises.specs.Calls.{loadOf}
-use Rattle.promises.specs.Making.{blockOf, HasThese, Restored, MadeIsGood, LoadsTheSame, RefusedMakeWritesNothing, MadePastUntouched, longestMade, RoomEnough}
+use Rattle.promises.specs.Calls.{loadOf, makeOf}
+use Rattle.promises.specs.Making.{blockOf, HasThese, Restored, MadeIsGood, LoadsTheSame, MadeAlike, SameDeckAgain, RefusedMakeWritesNothing, MadePastUntouched, longestMade, RoomEnough}
+use Rattle.promises.proofs.SameDecks.{deck-same}
 
 -- ---- what the checks of a call found
 
@@ -59,6 +61,15 @@ passed c d n r =
 
 abbrev madeAs : MakeCall → MakeResult
 madeAs c = record { making = Made (length (deckFor c)); out = over (deckFor c) (c .out) }
+
+-- a call that passes its checks makes the deck
+numbers-fit : {c : MakeCall} → Passed c → numbersFit (c .order) (c .problem) ≡ true
+numbers-fit {c} p = simp (le-leb 1 (c .order) (p .from), le-leb (c .order) 999 (p .upto), le-leb (c .problem) 999 (p .posed))
+
+is-made : (c : MakeCall) → drumFits (length (c .drum)) (c .marks) (cellsOf c) ≡ true → numbersFit (c .order) (c .problem) ≡ true
+    → length (deckFor c) ≤ length (c .out) → made c ≡ madeAs c
+unfolding made madeOf
+is-made c d n r = rw (d, n, le-leb (length (deckFor c)) (length (c .out)) r)
 
 -- why none is made
 data Refused (c : MakeCall) : Making → Type 0 where
@@ -191,8 +202,50 @@ module _ (c : MakeCall) (n : ℕ) (h : Done c n (made c)) (drum marks : List ℕ
         others-kept = λ a l e. number-is a (cell-is a l e);
       })
 
+  -- made again: drum and marks are valid, their cells are the same from 001 on, and so is the deck
+  shows-word : (a : ℕ) → wordAt cells a ≤ 19999999999
+  shows-word zero = omega (arith, ap shown (given .zero-is))
+  shows-word (suc a) = omega (arith, ap shown (given .others (suc a) (omega arith)), all-words (cellsOf c) (h .checks .lent .words-fit) (suc a))
+
+  seen-again : view (overlay drum cells) (marksOf cells) ≡ cells
+  seen-again = view-again drum cells (there .drum-long ∙ sym (given .long))
+
+  fits-again : drumFits (length (overlay drum cells)) (marksOf cells) (view (overlay drum cells) (marksOf cells)) ≡ true
+  unfolding drumFits
+  fits-again =
+      simp (
+        eq-eqb (length (overlay drum cells)) 1000 (length-overlay drum cells ∙ there .drum-long),
+        eq-eqb (length (marksOf cells)) 1000 (length-marks cells ∙ given .long),
+        marks-of-fit cells,
+        seen-again,
+        words-fit cells shows-word,
+      )
+
+  made-again : (s : State) (traced : Bool) (room : List ℕ) → n ≤ length room
+      → let x = loaded (loadOf drum marks (take n (made c .out)) s traced) in
+      MadeAlike n (made c) (made (makeOf (x .drum) (x .marks) room (c .order) (c .problem)))
+  unfolding loaded loadedFrom over
+  made-again s traced room l =
+      rw (fits, is-good c n h)
+      (let d : MakeCall = makeOf (overlay drum cells) (marksOf cells) room (c .order) (c .problem) in
+      let same : deckFor d ≡ deckFor c =
+      ap (λ (v : List Cell). deckMade v (c .order) (c .problem)) seen-again ∙ deck-same cells (cellsOf c) (given .others) (c .order) (c .problem) in
+      let long : length (deckFor d) ≡ n = ap length same ∙ h .long in
+      let y : made d ≡ madeAs d = is-made d fits-again (numbers-fit (h .checks)) (omega arith) in
+      record {
+        making-same = ap (λ (x : MakeResult). x .making) y ∙ ap Made long;
+        deck-same =
+            ap (λ (x : MakeResult). take n (x .out)) y
+            ∙ take-at (deckFor d) (drop (length (deckFor d)) room) n long
+            ∙ same
+            ∙ sym (deck-is c n h);
+      })
+
 pub loads-the-same : LoadsTheSame
 loads-the-same c n e drum marks fits clear s traced = restored c n (done c n e) drum marks fits clear s traced
+
+pub same-deck-again : SameDeckAgain
+same-deck-again c n e drum marks fits clear s traced room l = made-again c n (done c n e) drum marks fits clear s traced room l
 
 -- ---- what is written
 

@@ -12,13 +12,13 @@ use Rattle.rules.specs.Drum.{view, cellAt, markOf, drumFits}
 use Rattle.rules.specs.Cards.{cellsFit}
 use Rattle.rules.specs.Decks.{DataCard, dataFrom, deckOf}
 use Rattle.rules.specs.Loads.{LoadResult, fresh, loaded}
-use Rattle.rules.specs.Making.{Block, blocksIn, MakeCall, made}
+use Rattle.rules.specs.Making.{Block, blocksIn, MakeCall, MakeResult, made}
 use Rattle.rules.specs.declared.Cell.{Cell}
 use Rattle.rules.specs.declared.State.{State}
 use Rattle.rules.specs.declared.Deck.the-variants.{Good}
 use Rattle.rules.specs.declared.Loading.the-variants.{Loaded}
 use Rattle.rules.specs.declared.Making.the-variants.{Made, Full}
-use Rattle.promises.specs.Calls.{loadOf}
+use Rattle.promises.specs.Calls.{loadOf, makeOf}
 
 -- ---- which cards
 
@@ -112,6 +112,19 @@ LoadsTheSame =
     (c : MakeCall) (n : ℕ) → made c .making ≡ Made n
     → (drum marks : List ℕ) → drumFits (length drum) marks (view drum marks) ≡ true → ((a : ℕ) → getD marks a 0 ≡ 0)
     → (s : State) (traced : Bool) → Restored c n drum traced (loaded (loadOf drum marks (take n (made c .out)) s traced))
+
+-- And a deck made of the cells that it gave, with the same first order and problem number, is the same deck, in any room that holds it.
+pub record MadeAlike (n : ℕ) (x y : MakeResult) : Type 0 where
+  pub making-same : y .making ≡ Made n
+  pub deck-same : take n (y .out) ≡ take n (x .out)
+
+abbrev pub SameDeckAgain : Type 0
+SameDeckAgain =
+    (c : MakeCall) (n : ℕ) → made c .making ≡ Made n
+    → (drum marks : List ℕ) → drumFits (length drum) marks (view drum marks) ≡ true → ((a : ℕ) → getD marks a 0 ≡ 0)
+    → (s : State) (traced : Bool) (room : List ℕ) → n ≤ length room
+    → let x = loaded (loadOf drum marks (take n (made c .out)) s traced) in
+    MadeAlike n (made c) (made (makeOf (x .drum) (x .marks) room (c .order) (c .problem)))
 
 -- ---- what is written
 
