@@ -1,5 +1,5 @@
--- Laws of words: two are the same if each byte is, from the first on; a number is known by its digits, from the first on, and one that
--- has grown past the largest budget stays past it. Assumes nothing.
+-- Laws of words: two are the same if each byte is, from the first on; one that begins with a mark is not shorter; a number is known by its
+-- digits, from the first on, and one that has grown past the largest budget stays past it. Assumes nothing.
 use Prim.Native.Nat.{ℕ, zero, suc, _+_, _-_, _*_, _≤_, _<_, min}
 use mathlib.Core.Path.{_≡_, refl, sym, ap, _∙_}
 use mathlib.Core.List.{List, [], _∷_}
@@ -10,14 +10,12 @@ use lib.Dec.{eqb, leb, ltb}
 use lib.ListN.{length, take, drop, getD, length-take, length-drop, drop-of-length-le}
 use lib.Seq.{drop-cons, take-all}
 use borrow.Author.Tests.{leb-true, lt-ltb, le-ltb, eq-eqb, ne-eqb}
-use Rattle.rules.specs.Bytes.{bytes}
 use Rattle.rules.specs.Words.{both}
 use Rattle.rules.specs.Cards.{isDigit}
 use Rattle.bytes.specs.Longer.{withDigit}
 use Rattle.rules.proofs.Tests.{both-first}
-use Rattle.calls.specs.Words.{sameBytes, allDigits, isNumber, valueFrom, cappedNumber, tracedWord, stopWord, budgetMark, askedBy}
-use Rattle.calls.specs.declared.words.Asked.{Asked}
-use Rattle.calls.specs.declared.words.Asked.the-variants.{Budget, NoNumber, Nothing}
+use Rattle.calls.specs.Words.{sameBytes, beginsWith, allDigits, isNumber, valueFrom, cappedNumber}
+use Rattle.calls.specs.declared.words.Numeral.the-variants.{Value, None}
 
 -- ---- the same word
 
@@ -47,6 +45,12 @@ module _ (a b : List ℕ) (i : ℕ) (h : i < length a) (k : i < length b) where
 
   pub same-more : getD a i 0 ≡ getD b i 0 → sameBytes (drop (i + 1) a) (drop (i + 1) b) ≡ sameBytes (drop i a) (drop i b)
   same-more e = sym (same-next a b i h k ∙ rw (eq-eqb _ _ e))
+
+-- ---- a word that begins with a mark
+
+pub begins-not : (mark w : List ℕ) → length w < length mark → beginsWith mark w ≡ false
+begins-not mark w h =
+    same-not (take (length mark) w) mark (λ e. let l = length-take (length mark) w in let z : ⊥ = omega arith in z)
 
 -- ---- numbers
 
@@ -82,7 +86,7 @@ capped x (b ∷ l) =
 
 -- ---- the loop over the digits
 
--- what is left of the digits of t behind those of x is the whole number, as far as a budget can be told
+-- what is left of the digits of t behind those of x is the whole number, as far as it is told
 pub record Left (t : List ℕ) (x i : ℕ) : Type 0 where
   pub within : i ≤ length t
   pub small : x ≤ 1000000
@@ -92,19 +96,26 @@ pub record Left (t : List ℕ) (x i : ℕ) : Type 0 where
 pub left-begins : (t : List ℕ) → Left t 0 0
 left-begins t = record { within = omega arith; small = omega arith; rest = refl; value = refl }
 
-no-number : (t : List ℕ) → isNumber t ≡ false → NoNumber ≡ cappedNumber t
+no-number : (t : List ℕ) → isNumber t ≡ false → None ≡ cappedNumber t
 unfolding cappedNumber
 no-number t e = rw e
 
-pub left-none : (t : List ℕ) → length t ≡ 0 → NoNumber ≡ cappedNumber t
+pub left-none : (t : List ℕ) → length t ≡ 0 → None ≡ cappedNumber t
 left-none t e = no-number t (rw (le-ltb 0 (length t) (omega arith)))
+
+-- what is cut off behind the first n bytes of a word is all that is there, and of a shorter word nothing
+pub behind-all : (n : ℕ) (w : List ℕ) → take (length w - n) (drop n w) ≡ drop n w
+behind-all n w = take-all (length w - n) (drop n w) (let l = length-drop n w in let z : length (drop n w) ≤ length w - n = omega arith in z)
+
+pub behind-none : (n : ℕ) (w : List ℕ) → length w < n → None ≡ cappedNumber (drop n w)
+behind-none n w h = left-none (drop n w) (let l = length-drop n w in let z : length (drop n w) ≡ 0 = omega arith in z)
 
 all-but : (n : Bool) → both n false ≡ false
 all-but true = refl
 all-but false = refl
 
 module _ (t : List ℕ) (x i : ℕ) (l : Left t x i) (h : i < length t) where
-  pub left-bad : isDigit (getD t i 0) ≡ false → NoNumber ≡ cappedNumber t
+  pub left-bad : isDigit (getD t i 0) ≡ false → None ≡ cappedNumber t
   left-bad e =
       let d : allDigits t ≡ false = sym (l .rest) ∙ digits-next t i h ∙ rw e in
       no-number t (rw d (all-but (ltb 0 (length t))))
@@ -120,7 +131,7 @@ module _ (t : List ℕ) (x i : ℕ) (l : Left t x i) (h : i < length t) where
             (capped (withDigit x (getD t i 0)) (drop (i + 1) t) ∙ ap (λ (z : ℕ). min 1000000 z) (sym (value-next t i x h)) ∙ l .value);
       }
 
-pub left-ends : (t : List ℕ) (x i : ℕ) → Left t x i → length t ≤ i → 0 < length t → Budget x ≡ cappedNumber t
+pub left-ends : (t : List ℕ) (x i : ℕ) → Left t x i → length t ≤ i → 0 < length t → Value x ≡ cappedNumber t
 unfolding cappedNumber
 left-ends t x i l h k =
     let d : allDigits t ≡ true = sym (l .rest) ∙ digits-end t i h in
@@ -128,24 +139,4 @@ left-ends t x i l h k =
     let s = l .small in
     let m : min 1000000 x ≡ x = omega arith in
     sym m ∙ ap (λ (z : ℕ). min 1000000 z) (sym (value-end t i x h)) ∙ l .value in
-    rw (d, lt-ltb 0 (length t) k) (ap Budget v)
-
--- ---- a word that is neither traced nor stop
-
-module _ (w : List ℕ) (p : sameBytes w tracedWord ≡ false) (q : sameBytes w stopWord ≡ false) where
-  pub asked-not : sameBytes (take 7 w) budgetMark ≡ false → Nothing ≡ askedBy w
-  unfolding askedBy
-  asked-not e = rw (p, q, e)
-
-  pub asked-short : length w < 7 → Nothing ≡ askedBy w
-  unfolding bytes
-  asked-short h =
-      asked-not
-      (same-not (take 7 w) budgetMark
-      (λ e. let k : length (take 7 w) ≡ 7 = e in let l = length-take 7 w in let z : ⊥ = omega arith in z))
-
-  pub asked-number : (r : Asked) → 7 ≤ length w → sameBytes (take 7 w) budgetMark ≡ true → r ≡ cappedNumber (take (length w - 7) (drop 7 w)) → r ≡ askedBy w
-  unfolding askedBy
-  asked-number r h e g =
-      rw (p, q, e)
-      (g ∙ ap cappedNumber (take-all (length w - 7) (drop 7 w) (let l = length-drop 7 w in let z : length (drop 7 w) ≤ length w - 7 = omega arith in z)))
+    rw (d, lt-ltb 0 (length t) k) (ap Value v)

@@ -20,10 +20,16 @@ use Rattle.calls.proofs.options.is_fine.Kinds as is-fine-kinds
 use Rattle.calls.proofs.options.is_fine.Reads as is-fine
 use Rattle.calls.proofs.options.with_next.Kinds as with-next-kinds
 use Rattle.calls.proofs.options.with_next.Reads as with-next
+use Rattle.calls.proofs.options.lacks_first.Kinds as lacks-first-kinds
+use Rattle.calls.proofs.options.lacks_first.Reads as lacks-first
+use Rattle.calls.proofs.options.at_end.Kinds as at-end-kinds
+use Rattle.calls.proofs.options.at_end.Reads as at-end
 use Rattle.calls.proofs.options.is_traced.Kinds as is-traced-kinds
 use Rattle.calls.proofs.options.is_traced.Reads as is-traced
 use Rattle.calls.proofs.options.switches_of.Kinds as switches-of-kinds
 use Rattle.calls.proofs.options.switches_of.Reads as switches-of
+use Rattle.calls.proofs.options.problem_of.Kinds as problem-of-kinds
+use Rattle.calls.proofs.options.problem_of.Reads as problem-of
 
 pub one-command : OneResult 1 command-of-kinds.ps command-of-kinds.r command-of.Post
 one-command κs a x y s t p q = p ∙ sym q
@@ -52,8 +58,17 @@ one-fine κs a x y s t p q = p ∙ sym q
 pub one-next : OneResult 0 with-next-kinds.ps with-next-kinds.r with-next.Post
 one-next κs a x y s t p q = p ∙ sym q
 
+pub one-lack : OneResult 0 lacks-first-kinds.ps lacks-first-kinds.r lacks-first.Post
+one-lack κs a x y s t p q = p ∙ sym q
+
+pub one-end : OneResult 0 at-end-kinds.ps at-end-kinds.r at-end.Post
+one-end κs a x y s t p q = p ∙ sym q
+
 pub one-traced : OneResult 0 is-traced-kinds.ps is-traced-kinds.r is-traced.Post
 one-traced κs a x y s t p q = p ∙ sym q
 
 pub one-switches : OneResult 0 switches-of-kinds.ps switches-of-kinds.r switches-of.Post
 one-switches κs a x y s t p q = p ∙ sym q
+
+pub one-problem : OneResult 0 problem-of-kinds.ps problem-of-kinds.r problem-of.Post
+one-problem κs a x y s t p q = p ∙ sym q

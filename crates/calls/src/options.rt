@@ -1,15 +1,18 @@
 // What a call asks for beside its files: which words its command takes, and what those that came say.
 ghost use mathlib.Core.Path.{_≡_};
-ghost use Rattle.calls.specs.Words.{takes, formOf, atTurn, troubleOf, withTraced, withStop, withBudget, withWord, spoiltOf, isGiven, isMissing, startOf, isFine, withNext, isTraced, switchesOf};
+ghost use Rattle.calls.specs.Words.{takes, makes, formOf, atTurn, troubleOf, isGiven, isDue, isMissing, isFine, lacksFirst};
+ghost use Rattle.calls.specs.Words.{withTraced, withStop, withBudget, withFirst, withProblem, withWord, spoiltOf, startOf, withNext, atEnd};
+ghost use Rattle.calls.specs.Words.{isTraced, switchesOf, problemOf};
 use crate::words::Asked;
 use crate::words::Command;
 use crate::words::behind_names;
 use rules::Switches;
 
-// Whether a word may come: not with this command, or once, or no more.
+// Whether a word may come: not with this command, or once, or once and must, or no more.
 pub enum Turn {
     Never,
     Open,
+    Due,
     Given,
 }
 
@@ -21,13 +24,18 @@ pub enum Trouble {
     NotNumber,
 }
 
-// What a call asks for beside its files.
+// What a call asks for beside its files. Of a word with a number behind it there are whether it may come and the number: limit and budget,
+// first and order, bears and problem.
 pub struct Options {
     pub good: bool,
     pub traced: Turn,
     pub stop: Turn,
     pub limit: Turn,
     pub budget: u64,
+    pub first: Turn,
+    pub order: u64,
+    pub bears: Turn,
+    pub problem: u64,
 }
 
 // A command that takes these words behind the names.
@@ -40,6 +48,27 @@ fn taking(traced: Turn, stop: Turn, limit: Turn) -> Options
         stop,
         limit,
         budget: 999_999,
+        first: Turn::Never,
+        order: 0,
+        bears: Turn::Never,
+        problem: 0,
+    }
+}
+
+// The command that makes a deck: it must be told a first order, and may be told a problem number.
+fn making() -> Options
+    ensures { λ r. ⌜ r ≡ makes ⌝ }
+{
+    Options {
+        good: true,
+        traced: Turn::Never,
+        stop: Turn::Never,
+        limit: Turn::Never,
+        budget: 999_999,
+        first: Turn::Due,
+        order: 0,
+        bears: Turn::Open,
+        problem: 0,
     }
 }
 
@@ -55,6 +84,7 @@ fn form_of(command: Command) -> Options
         Command::Deck => taking(Turn::Never, Turn::Never, Turn::Never),
         Command::List => taking(Turn::Never, Turn::Never, Turn::Never),
         Command::Cells => taking(Turn::Never, Turn::Never, Turn::Never),
+        Command::Make => making(),
         Command::Unknown => taking(Turn::Never, Turn::Never, Turn::Never),
     }
 }
@@ -66,6 +96,7 @@ fn at_turn(turn: Turn) -> Trouble
     match turn {
         Turn::Never => Trouble::Stray,
         Turn::Open => Trouble::Fine,
+        Turn::Due => Trouble::Fine,
         Turn::Given => Trouble::Twice,
     }
 }
@@ -77,10 +108,14 @@ pub fn trouble_of(options: Options, asked: Asked) -> Trouble
     let traced = options.traced;
     let stop = options.stop;
     let limit = options.limit;
+    let first = options.first;
+    let bears = options.bears;
     match asked {
         Asked::Traced => at_turn(traced),
         Asked::Stop => at_turn(stop),
         Asked::Budget(_) => at_turn(limit),
+        Asked::First(_) => at_turn(first),
+        Asked::Problem(_) => at_turn(bears),
         Asked::NoNumber => Trouble::NotNumber,
         Asked::Nothing => Trouble::Stray,
     }
@@ -92,12 +127,18 @@ fn with_traced(options: Options) -> Options
 {
     let stop = options.stop;
     let limit = options.limit;
+    let first = options.first;
+    let bears = options.bears;
     Options {
         good: options.good,
         traced: Turn::Given,
         stop,
         limit,
         budget: options.budget,
+        first,
+        order: options.order,
+        bears,
+        problem: options.problem,
     }
 }
 
@@ -107,12 +148,18 @@ fn with_stop(options: Options) -> Options
 {
     let traced = options.traced;
     let limit = options.limit;
+    let first = options.first;
+    let bears = options.bears;
     Options {
         good: options.good,
         traced,
         stop: Turn::Given,
         limit,
         budget: options.budget,
+        first,
+        order: options.order,
+        bears,
+        problem: options.problem,
     }
 }
 
@@ -122,12 +169,60 @@ fn with_budget(options: Options, budget: u64) -> Options
 {
     let traced = options.traced;
     let stop = options.stop;
+    let first = options.first;
+    let bears = options.bears;
     Options {
         good: options.good,
         traced,
         stop,
         limit: Turn::Given,
         budget,
+        first,
+        order: options.order,
+        bears,
+        problem: options.problem,
+    }
+}
+
+// With a first order more.
+fn with_first(options: Options, order: u64) -> Options
+    ensures { λ r. ⌜ r ≡ withFirst options order ⌝ }
+{
+    let traced = options.traced;
+    let stop = options.stop;
+    let limit = options.limit;
+    let bears = options.bears;
+    Options {
+        good: options.good,
+        traced,
+        stop,
+        limit,
+        budget: options.budget,
+        first: Turn::Given,
+        order,
+        bears,
+        problem: options.problem,
+    }
+}
+
+// With a problem number more.
+fn with_problem(options: Options, problem: u64) -> Options
+    ensures { λ r. ⌜ r ≡ withProblem options problem ⌝ }
+{
+    let traced = options.traced;
+    let stop = options.stop;
+    let limit = options.limit;
+    let first = options.first;
+    Options {
+        good: options.good,
+        traced,
+        stop,
+        limit,
+        budget: options.budget,
+        first,
+        order: options.order,
+        bears: Turn::Given,
+        problem,
     }
 }
 
@@ -139,6 +234,8 @@ fn with_word(options: Options, asked: Asked) -> Options
         Asked::Traced => with_traced(options),
         Asked::Stop => with_stop(options),
         Asked::Budget(n) => with_budget(options, n),
+        Asked::First(n) => with_first(options, n),
+        Asked::Problem(n) => with_problem(options, n),
         Asked::NoNumber => options,
         Asked::Nothing => options,
     }
@@ -151,12 +248,18 @@ fn spoilt(options: Options) -> Options
     let traced = options.traced;
     let stop = options.stop;
     let limit = options.limit;
+    let first = options.first;
+    let bears = options.bears;
     Options {
         good: false,
         traced,
         stop,
         limit,
         budget: options.budget,
+        first,
+        order: options.order,
+        bears,
+        problem: options.problem,
     }
 }
 
@@ -167,7 +270,20 @@ fn is_given(turn: Turn) -> bool
     match turn {
         Turn::Never => false,
         Turn::Open => false,
+        Turn::Due => false,
         Turn::Given => true,
+    }
+}
+
+// Whether a word must come and has not come yet.
+fn is_due(turn: Turn) -> bool
+    ensures { λ r. ⌜ r ≡ isDue turn ⌝ }
+{
+    match turn {
+        Turn::Never => false,
+        Turn::Open => false,
+        Turn::Due => true,
+        Turn::Given => false,
     }
 }
 
@@ -213,6 +329,28 @@ pub fn with_next(options: Options, asked: Asked) -> Options
     }
 }
 
+// Whether a first order is all that a call lacks, after its last word.
+pub fn lacks_first(options: Options) -> bool
+    ensures { λ r. ⌜ r ≡ lacksFirst options ⌝ }
+{
+    if !options.good {
+        return false;
+    }
+    let first = options.first;
+    is_due(first)
+}
+
+// What a call asks for, after its last word. One that lacks a first order is not to be obeyed.
+pub fn at_end(options: Options) -> Options
+    ensures { λ r. ⌜ r ≡ atEnd options ⌝ }
+{
+    if lacks_first(options) {
+        spoilt(options)
+    } else {
+        options
+    }
+}
+
 // Whether the load is to be a traced one.
 pub fn is_traced(options: Options) -> bool
     ensures { λ r. ⌜ r ≡ isTraced options ⌝ }
@@ -228,5 +366,17 @@ pub fn switches_of(options: Options) -> Switches
     let stop = options.stop;
     Switches {
         stop: is_given(stop),
+    }
+}
+
+// The problem number for a deck: the one given, or where none is, the machine's own.
+pub fn problem_of(options: Options, own: u64) -> u64
+    ensures { λ r. ⌜ r ≡ problemOf options own ⌝ }
+{
+    let bears = options.bears;
+    if is_given(bears) {
+        options.problem
+    } else {
+        own
     }
 }

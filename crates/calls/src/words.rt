@@ -1,7 +1,9 @@
 // What the words of a call say: the command, and behind the names of files the words that say how.
 ghost use mathlib.Core.Path.{_≡_};
 ghost use Prim.Native.Nat.{_+_, _*_, _≤_, min};
-ghost use Rattle.calls.specs.Words.{sameBytes, commandOf, isKnown, cappedNumber, askedBy, behindNew, behindNames};
+ghost use lib.ListN.{drop};
+ghost use Rattle.calls.specs.Words.{sameBytes, beginsWith, commandOf, isKnown, behindNew, behindNames};
+ghost use Rattle.calls.specs.Words.{cappedNumber, asBudget, asFirst, asProblem, askedBy};
 use bytes::is_digit;
 
 // What is to be done.
@@ -13,14 +15,23 @@ pub enum Command {
     Deck,
     List,
     Cells,
+    Make,
     Unknown,
 }
 
-// What a word behind the names asks for. A number above the largest budget is told as the next one above it, which no run takes.
+// What a text says as a number. One above 1,000,000 is told as 1,000,000, which no run and no deck takes.
+pub enum Numeral {
+    Value(u64),
+    None,
+}
+
+// What a word behind the names asks for.
 pub enum Asked {
     Traced,
     Stop,
     Budget(u64),
+    First(u64),
+    Problem(u64),
     NoNumber,
     Nothing,
 }
@@ -40,6 +51,17 @@ fn is_same(a: &[u8], b: &[u8]) -> bool
         i += 1;
     }
     true
+}
+
+// Whether a word begins with a mark.
+fn begins(word: &[u8], mark: &[u8]) -> bool
+    ensures { λ r. ⌜ r ≡ beginsWith (now (mark .entry)) (now (word .entry)) ⌝ }
+{
+    let n = mark.len();
+    if word.len() < n {
+        return false;
+    }
+    is_same(&word[0..n], mark)
 }
 
 // The command that a word names.
@@ -67,6 +89,9 @@ pub fn command_of(word: &[u8]) -> Command
     if is_same(word, b"cells") {
         return Command::Cells;
     }
+    if is_same(word, b"make") {
+        return Command::Make;
+    }
     Command::Unknown
 }
 
@@ -82,6 +107,7 @@ pub fn is_known(command: Command) -> bool
         Command::Deck => true,
         Command::List => true,
         Command::Cells => true,
+        Command::Make => true,
         Command::Unknown => false,
     }
 }
@@ -105,6 +131,7 @@ pub fn behind_names(command: Command, count: usize) -> usize
         Command::Deck => 3,
         Command::List => 3,
         Command::Cells => 3,
+        Command::Make => 3,
         Command::Unknown => 3,
     }
 }
@@ -119,23 +146,63 @@ fn with_digit(x: u64, d: u8) -> u64
 }
 
 // The number that decimal digits are, or 1,000,000 where it is larger; and whether they are a number.
-fn number_of(text: &[u8]) -> Asked
+fn number_of(text: &[u8]) -> Numeral
     ensures { λ r. ⌜ r ≡ cappedNumber (now (text .entry)) ⌝ }
 {
     if text.len() == 0 {
-        return Asked::NoNumber;
+        return Numeral::None;
     }
     let mut x: u64 = 0;
     let mut i: usize = 0;
     while i < text.len() {
         let b = text[i];
         if !is_digit(b) {
-            return Asked::NoNumber;
+            return Numeral::None;
         }
         x = with_digit(x, b - b'0');
         i += 1;
     }
-    Asked::Budget(x)
+    Numeral::Value(x)
+}
+
+// The number behind the first n bytes of a word.
+fn number_behind(word: &[u8], n: usize) -> Numeral
+    ensures { λ r. ⌜ r ≡ cappedNumber (drop n (now (word .entry))) ⌝ }
+{
+    if word.len() < n {
+        return Numeral::None;
+    }
+    number_of(&word[n..])
+}
+
+// What a word asks for that has this number behind its mark: a budget,
+fn as_budget(numeral: Numeral) -> Asked
+    ensures { λ r. ⌜ r ≡ asBudget numeral ⌝ }
+{
+    match numeral {
+        Numeral::Value(n) => Asked::Budget(n),
+        Numeral::None => Asked::NoNumber,
+    }
+}
+
+// a first order,
+fn as_first(numeral: Numeral) -> Asked
+    ensures { λ r. ⌜ r ≡ asFirst numeral ⌝ }
+{
+    match numeral {
+        Numeral::Value(n) => Asked::First(n),
+        Numeral::None => Asked::NoNumber,
+    }
+}
+
+// a problem number.
+fn as_problem(numeral: Numeral) -> Asked
+    ensures { λ r. ⌜ r ≡ asProblem numeral ⌝ }
+{
+    match numeral {
+        Numeral::Value(n) => Asked::Problem(n),
+        Numeral::None => Asked::NoNumber,
+    }
 }
 
 // What a word asks for.
@@ -148,11 +215,14 @@ pub fn asked_by(word: &[u8]) -> Asked
     if is_same(word, b"stop") {
         return Asked::Stop;
     }
-    if word.len() < 7 {
-        return Asked::Nothing;
+    if begins(word, b"budget=") {
+        return as_budget(number_behind(word, 7));
     }
-    if !is_same(&word[0..7], b"budget=") {
-        return Asked::Nothing;
+    if begins(word, b"first=") {
+        return as_first(number_behind(word, 6));
     }
-    number_of(&word[7..])
+    if begins(word, b"problem=") {
+        return as_problem(number_behind(word, 8));
+    }
+    Asked::Nothing
 }

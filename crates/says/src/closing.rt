@@ -1,10 +1,23 @@
-// The closing of a call, as bytes.
+// The closing of a call, as bytes: the Z card of a run, or the line of a call that was refused. A call of make closes with its deck, or with
+// such a line.
 ghost use mathlib.Core.Path.{_≡_};
+ghost use mathlib.Core.Bool.{true};
+ghost use Prim.Native.Nat.{min};
 ghost use Rattle.io.specs.Counts.{Counts};
-ghost use Rattle.rules.specs.Sheet.{closing};
+ghost use Rattle.rules.specs.Cards.{refusalLine};
+ghost use Rattle.rules.specs.Sheet.{closing, makeLine};
 ghost use Rattle.says.specs.Told.{mayClose, Closed};
 use rules::Ending;
+use rules::Making;
 use rules::State;
+
+// The line of a call that was refused: its number, a space and its place, over the start of the output. It answers how many bytes that is.
+fn write_refused(out: &mut [u8], number: u64, place: u64) -> usize
+    ensures { λ r. ⌜ Closed true (refusalLine number place) (now (out .entry)) r (now (out .exit)) ⌝ }
+    ensures { λ r. ⌜ Counts r (now (out .exit)) ⌝ }
+{
+    card::write_line(out, number, place as usize)
+}
 
 // The Z card of a run, or the line of one that was refused at its entry, over the start of the output. It answers how many bytes that is.
 pub fn write_closing(out: &mut [u8], ending: Ending, state: State, count: u64) -> usize
@@ -15,7 +28,7 @@ pub fn write_closing(out: &mut [u8], ending: Ending, state: State, count: u64) -
         Ending::NotRun(b) => {
             let number = stops::bar_number(b);
             let place = stops::bar_place(b);
-            card::write_line(out, number, place as usize)
+            write_refused(out, number, place)
         }
         Ending::Ran(o) => {
             let number = stops::outcome_number(o);
@@ -28,4 +41,24 @@ pub fn write_closing(out: &mut [u8], ending: Ending, state: State, count: u64) -
             }
         }
     }
+}
+
+// The lesser of two numbers.
+fn lesser(a: usize, b: usize) -> usize
+    ensures { λ r. ⌜ r ≡ min a b ⌝ }
+{
+    if a < b { a } else { b }
+}
+
+// What is told of a call of make that left this output: the deck, which stands there, or the line of a refused call, over the start of the
+// output. It answers how many bytes that is.
+pub fn write_making(out: &mut [u8], making: Making) -> usize
+    ensures { λ r. ⌜ Closed true (makeLine making (now (out .entry))) (now (out .entry)) r (now (out .exit)) ⌝ }
+    ensures { λ r. ⌜ Counts r (now (out .exit)) ⌝ }
+{
+    let number = stops::making_number(making);
+    if number != 0 {
+        return write_refused(out, number, 0);
+    }
+    lesser(stops::making_written(making), out.len())
 }

@@ -4,11 +4,13 @@ mod closing;
 mod texts;
 
 pub use closing::write_closing;
+pub use closing::write_making;
 pub use texts::failed;
 pub use texts::help;
 pub use texts::kept;
 pub use texts::link;
 pub use texts::missing;
+pub use texts::no_first;
 pub use texts::not_cells;
 pub use texts::refused;
 pub use texts::replaced;

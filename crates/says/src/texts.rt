@@ -26,9 +26,13 @@ pub fn help() {
     say(b"      cards as lines that people read\n");
     say(b"  l1 cells MACHINE\n");
     say(b"      the marked cells, one to a line\n");
+    say(b"  l1 make MACHINE first=N [problem=N]\n");
+    say(b"      a load deck of the marked cells, with N as its first order\n");
     say(b"\n");
     say(b"traced: the load is a traced one.  stop: the PROGRAMMED STOP switch is on STOP.\n");
     say(b"budget=N: at most N orders; 999999 where it is not given.\n");
+    say(b"first=N: the first order of the deck, 1 to 999.\n");
+    say(b"problem=N: its problem number; the machine's own where it is not given.\n");
 }
 
 // That a word is no command, and what can be called.
@@ -51,6 +55,7 @@ pub fn usage(command: Command) {
         Command::Deck => say(b"usage: l1 deck DECK\n"),
         Command::List => say(b"usage: l1 list FILE\n"),
         Command::Cells => say(b"usage: l1 cells MACHINE\n"),
+        Command::Make => say(b"usage: l1 make MACHINE first=N [problem=N]\n"),
         Command::Unknown => help(),
     }
 }
@@ -76,6 +81,11 @@ pub fn refused(word: &[u8], trouble: Trouble) {
 // That a name is missing.
 pub fn missing() {
     say(b"l1: a file's name is missing\n");
+}
+
+// That a first order is missing.
+pub fn no_first() {
+    say(b"l1: first=N is missing\n");
 }
 
 // That a machine file is as it was.

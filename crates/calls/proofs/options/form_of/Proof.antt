@@ -28,13 +28,18 @@ returns-7 : tie.Need-returns-7
 returns-7 c = rw (c .before .enum-told7 .given .1) (c .taking7 .ensures)
 
 returns-8 : tie.Need-returns-8
-returns-8 c = rw (c .before .enum-told8 .given .1) (c .taking8 .ensures)
+returns-8 c = rw (c .before .enum-told8 .given .1) (c .making .ensures)
+
+returns-9 : tie.Need-returns-9
+returns-9 c = rw (c .before .enum-told9 .given .1) (c .taking8 .ensures)
 
 pub form-of-spec : {M : Type 1} → statement M
 form-of-spec =
     tie.close
     (tie.spec
     enum-told
+    (λ c κs. search needs)
+    (λ c. search needs)
     (λ c κs. search needs)
     (λ c. search needs)
     (λ c κs. search needs)
@@ -57,4 +62,5 @@ form-of-spec =
     returns-5
     returns-6
     returns-7
-    returns-8)
+    returns-8
+    returns-9)

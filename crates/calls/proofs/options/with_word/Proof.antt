@@ -17,6 +17,16 @@ returns-3 c =
     let word : tie.After-asked = search in
     rw (word .asked .given .1) (c .with-budget .ensures)
 
+returns-4 : tie.Need-returns-4
+returns-4 c =
+    let word : tie.After-asked2 = search in
+    rw (word .asked2 .given .1) (c .with-first .ensures)
+
+returns-5 : tie.Need-returns-5
+returns-5 c =
+    let word : tie.After-asked3 = search in
+    rw (word .asked3 .given .1) (c .with-problem .ensures)
+
 pub with-word-spec : {M : Type 1} → statement M
 with-word-spec =
     tie.close
@@ -28,9 +38,15 @@ with-word-spec =
     (λ c. search needs)
     (λ c κs. search needs)
     (λ c. search needs)
+    (λ c κs. search needs)
+    (λ c. search needs)
+    (λ c κs. search needs)
+    (λ c. search needs)
     (λ c. search needs)
     returns
     returns-2
     returns-3
+    returns-4
+    returns-5
     (λ c. search needs)
     (λ c. search needs))

@@ -1,10 +1,8 @@
--- `calls::asked_by` meets its contract: the words are tried one after another, and of a budget the number is read. Assumes nothing.
-use mathlib.Core.Path.{_≡_, refl, sym, _∙_}
-use borrow.Author.Tests.{not-true, not-false}
-use Rattle.calls.specs.Words.{askedBy}
-use Rattle.calls.proofs.Letters.{asked-short, asked-not, asked-number}
-use borrow.Author.Needs.{needs}
+-- `calls::asked_by` meets its contract: the words are tried one after another, and behind a mark the number is read. Assumes nothing.
+use mathlib.Core.Path.{_≡_, refl, sym, ap, _∙_}
 use Rattle.rules.specs.Bytes.{bytes}
+use Rattle.calls.specs.Words.{asBudget, asFirst, asProblem, askedBy}
+use borrow.Author.Needs.{needs}
 use Rattle.calls.proofs.words.asked_by.Statement.{statement}
 use Rattle.calls.proofs.words.asked_by.Tie as tie
 
@@ -23,38 +21,67 @@ returns-2 c =
     rw (sym (is1 .is-same .ensures) ∙ no1 .if1 .left, sym (is2 .is-same2 .ensures) ∙ c .if2 .taken)
 
 returns-3 : tie.Need-returns-3
-unfolding bytes
+unfolding askedBy bytes
 returns-3 c =
-    let start : tie.Start = search in
-    let is1 : tie.After-is-same = search in
-    let no1 : tie.Else1 = search in
-    let is2 : tie.After-is-same2 = search in
+    let asked : tie.After-as-budget = search in
+    let number : tie.After-number-behind = search in
+    let taken : tie.Then3 = search in
+    let is3 : tie.After-begins = search in
     let no2 : tie.Else2 = search in
-    asked-short (start .args .word .now) (sym (is1 .is-same .ensures) ∙ no1 .if1 .left) (sym (is2 .is-same2 .ensures) ∙ no2 .if2 .left) (c .if3 .taken)
+    let is2 : tie.After-is-same2 = search in
+    let no1 : tie.Else1 = search in
+    let is1 : tie.After-is-same = search in
+    rw (sym (is1 .is-same .ensures) ∙ no1 .if1 .left, sym (is2 .is-same2 .ensures) ∙ no2 .if2 .left, sym (is3 .begins .ensures) ∙ taken .if3 .taken)
+    (asked .as-budget .ensures ∙ ap asBudget (number .number-behind .ensures))
 
 returns-4 : tie.Need-returns-4
-unfolding bytes
+unfolding askedBy bytes
 returns-4 c =
-    let start : tie.Start = search in
-    let is1 : tie.After-is-same = search in
-    let no1 : tie.Else1 = search in
-    let is2 : tie.After-is-same2 = search in
+    let asked : tie.After-as-first = search in
+    let number : tie.After-number-behind2 = search in
+    let taken : tie.Then4 = search in
+    let is4 : tie.After-begins2 = search in
+    let no3 : tie.Else3 = search in
+    let is3 : tie.After-begins = search in
     let no2 : tie.Else2 = search in
-    let is3 : tie.After-is-same3 = search in
-    asked-not (start .args .word .now) (sym (is1 .is-same .ensures) ∙ no1 .if1 .left) (sym (is2 .is-same2 .ensures) ∙ no2 .if2 .left) (sym (is3 .is-same3 .ensures) ∙ not-true _ (c .if4 .taken))
+    let is2 : tie.After-is-same2 = search in
+    let no1 : tie.Else1 = search in
+    let is1 : tie.After-is-same = search in
+    rw (sym (is1 .is-same .ensures) ∙ no1 .if1 .left, sym (is2 .is-same2 .ensures) ∙ no2 .if2 .left, sym (is3 .begins .ensures) ∙ no3 .if3 .left, sym (is4 .begins2 .ensures) ∙ taken .if4 .taken)
+    (asked .as-first .ensures ∙ ap asFirst (number .number-behind2 .ensures))
 
 returns-5 : tie.Need-returns-5
-unfolding bytes
+unfolding askedBy bytes
 returns-5 c =
-    let start : tie.Start = search in
-    let is1 : tie.After-is-same = search in
-    let no1 : tie.Else1 = search in
-    let is2 : tie.After-is-same2 = search in
-    let no2 : tie.Else2 = search in
-    let no3 : tie.Else3 = search in
-    let is3 : tie.After-is-same3 = search in
+    let asked : tie.After-as-problem = search in
+    let number : tie.After-number-behind3 = search in
+    let taken : tie.Then5 = search in
+    let is5 : tie.After-begins3 = search in
     let no4 : tie.Else4 = search in
-    asked-number (start .args .word .now) (sym (is1 .is-same .ensures) ∙ no1 .if1 .left) (sym (is2 .is-same2 .ensures) ∙ no2 .if2 .left) _ (no3 .if3 .left) (sym (is3 .is-same3 .ensures) ∙ not-false _ (no4 .if4 .left)) (c .number-of .ensures)
+    let is4 : tie.After-begins2 = search in
+    let no3 : tie.Else3 = search in
+    let is3 : tie.After-begins = search in
+    let no2 : tie.Else2 = search in
+    let is2 : tie.After-is-same2 = search in
+    let no1 : tie.Else1 = search in
+    let is1 : tie.After-is-same = search in
+    rw (sym (is1 .is-same .ensures) ∙ no1 .if1 .left, sym (is2 .is-same2 .ensures) ∙ no2 .if2 .left, sym (is3 .begins .ensures) ∙ no3 .if3 .left, sym (is4 .begins2 .ensures) ∙ no4 .if4 .left, sym (is5 .begins3 .ensures) ∙ taken .if5 .taken)
+    (asked .as-problem .ensures ∙ ap asProblem (number .number-behind3 .ensures))
+
+returns-6 : tie.Need-returns-6
+unfolding askedBy bytes
+returns-6 c =
+    let no5 : tie.Else5 = search in
+    let is5 : tie.After-begins3 = search in
+    let no4 : tie.Else4 = search in
+    let is4 : tie.After-begins2 = search in
+    let no3 : tie.Else3 = search in
+    let is3 : tie.After-begins = search in
+    let no2 : tie.Else2 = search in
+    let is2 : tie.After-is-same2 = search in
+    let no1 : tie.Else1 = search in
+    let is1 : tie.After-is-same = search in
+    rw (sym (is1 .is-same .ensures) ∙ no1 .if1 .left, sym (is2 .is-same2 .ensures) ∙ no2 .if2 .left, sym (is3 .begins .ensures) ∙ no3 .if3 .left, sym (is4 .begins2 .ensures) ∙ no4 .if4 .left, sym (is5 .begins3 .ensures) ∙ no5 .if5 .left)
 
 pub asked-by-spec : {M : Type 1} → statement M
 asked-by-spec =
@@ -66,15 +93,19 @@ asked-by-spec =
     (λ c. search needs)
     (λ c κs. search needs)
     returns-2
+    (λ c. search needs)
+    (λ c κs. search needs)
+    (λ c κs. search needs)
+    (λ c κs. search needs)
     returns-3
     (λ c. search needs)
-    (λ c. search needs)
-    (λ c. search needs)
-    (λ c. search needs)
+    (λ c κs. search needs)
+    (λ c κs. search needs)
     (λ c κs. search needs)
     returns-4
     (λ c. search needs)
-    (λ c. search needs)
-    (λ c. search needs)
     (λ c κs. search needs)
-    returns-5)
+    (λ c κs. search needs)
+    (λ c κs. search needs)
+    returns-5
+    returns-6)

@@ -93,6 +93,8 @@ returns-7 c =
 returns-8 : tie.Need-returns-8
 unfolding commandOf bytes
 returns-8 c =
+    let is8 : tie.After-is-same8 = search in
+    let no7 : tie.Else7 = search in
     let is7 : tie.After-is-same7 = search in
     let no6 : tie.Else6 = search in
     let is6 : tie.After-is-same6 = search in
@@ -106,7 +108,27 @@ returns-8 c =
     let is2 : tie.After-is-same2 = search in
     let no1 : tie.Else1 = search in
     let is1 : tie.After-is-same = search in
-    rw (sym (is1 .is-same .ensures) ∙ no1 .if1 .left, sym (is2 .is-same2 .ensures) ∙ no2 .if2 .left, sym (is3 .is-same3 .ensures) ∙ no3 .if3 .left, sym (is4 .is-same4 .ensures) ∙ no4 .if4 .left, sym (is5 .is-same5 .ensures) ∙ no5 .if5 .left, sym (is6 .is-same6 .ensures) ∙ no6 .if6 .left, sym (is7 .is-same7 .ensures) ∙ c .if7 .left)
+    rw (sym (is1 .is-same .ensures) ∙ no1 .if1 .left, sym (is2 .is-same2 .ensures) ∙ no2 .if2 .left, sym (is3 .is-same3 .ensures) ∙ no3 .if3 .left, sym (is4 .is-same4 .ensures) ∙ no4 .if4 .left, sym (is5 .is-same5 .ensures) ∙ no5 .if5 .left, sym (is6 .is-same6 .ensures) ∙ no6 .if6 .left, sym (is7 .is-same7 .ensures) ∙ no7 .if7 .left, sym (is8 .is-same8 .ensures) ∙ c .if8 .taken)
+
+returns-9 : tie.Need-returns-9
+unfolding commandOf bytes
+returns-9 c =
+    let is8 : tie.After-is-same8 = search in
+    let no7 : tie.Else7 = search in
+    let is7 : tie.After-is-same7 = search in
+    let no6 : tie.Else6 = search in
+    let is6 : tie.After-is-same6 = search in
+    let no5 : tie.Else5 = search in
+    let is5 : tie.After-is-same5 = search in
+    let no4 : tie.Else4 = search in
+    let is4 : tie.After-is-same4 = search in
+    let no3 : tie.Else3 = search in
+    let is3 : tie.After-is-same3 = search in
+    let no2 : tie.Else2 = search in
+    let is2 : tie.After-is-same2 = search in
+    let no1 : tie.Else1 = search in
+    let is1 : tie.After-is-same = search in
+    rw (sym (is1 .is-same .ensures) ∙ no1 .if1 .left, sym (is2 .is-same2 .ensures) ∙ no2 .if2 .left, sym (is3 .is-same3 .ensures) ∙ no3 .if3 .left, sym (is4 .is-same4 .ensures) ∙ no4 .if4 .left, sym (is5 .is-same5 .ensures) ∙ no5 .if5 .left, sym (is6 .is-same6 .ensures) ∙ no6 .if6 .left, sym (is7 .is-same7 .ensures) ∙ no7 .if7 .left, sym (is8 .is-same8 .ensures) ∙ c .if8 .left)
 
 pub command-of-spec : {M : Type 1} → statement M
 command-of-spec =
@@ -133,4 +155,7 @@ command-of-spec =
     (λ c. search needs)
     (λ c κs. search needs)
     returns-7
-    returns-8)
+    (λ c. search needs)
+    (λ c κs. search needs)
+    returns-8
+    returns-9)

@@ -1,4 +1,4 @@
--- `says::write_closing` meets its contract: the writers of a stop card and of a line say the rest. Assumes nothing.
+-- `says::write_closing` meets its contract: the writers of a stop card and of a refused call's line say the rest. Assumes nothing.
 use mathlib.Core.Path.{sym, ap}
 use mathlib.Core.Bool.{Bool}
 use Prim.Native.Nat.{ℕ}
@@ -15,8 +15,8 @@ returns c =
     let which : tie.After-ending = search in
     let number : tie.After-bar-number = search in
     let place : tie.After-bar-place = search in
-    let line : tie.After-write-line = search in
-    let w = line-told (a .ending) (a .state) (a .count) (a .out .now) _ _ _ _ _ (which .ending .given .1) (number .bar-number .ensures) (place .bar-place .ensures) (line .write-line .ensures) in
+    let line : tie.After-write-refused = search in
+    let w = line-told (a .ending) (a .state) (a .count) (a .out .now) _ _ _ _ _ (which .ending .given .1) (number .bar-number .ensures) (place .bar-place .ensures) (line .write-refused .ensures .0) in
     (w, closed-counts _ _ _ _ _ w)
 
 returns-2 : tie.Need-returns-2
