@@ -1,3 +1,4 @@
 pub mod Rooms
 pub mod Sendings
 pub mod OneRoom
+pub mod MadeSheets

@@ -1,3 +1,4 @@
 pub mod Going
 pub mod New
 pub mod Rooms
+pub mod Made

@@ -1,5 +1,6 @@
 // The program: one command for each call. Here the words of the call choose what is done; it is done by the other modules, over the
 // libraries.
+mod decks;
 mod listings;
 mod machines;
 mod sessions;
@@ -25,6 +26,7 @@ fn obey(command: Command, options: Options) {
         Command::Deck => telling::check_deck(&name[..n]),
         Command::List => shows::list(&name[..n]),
         Command::Cells => listings::cells(&name[..n]),
+        Command::Make => decks::make(&name[..n], options),
         Command::Unknown => says::help(),
     }
 }

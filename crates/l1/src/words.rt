@@ -4,13 +4,15 @@ ghost use mathlib.Core.List.{List};
 ghost use Prim.Native.Nat.{ℕ};
 ghost use lib.ListN.{length};
 ghost use Rattle.io.specs.Counts.{Counts};
-ghost use Rattle.calls.specs.Words.{askedBy, withNext, startOf, behindNames, Read};
+ghost use Rattle.calls.specs.Words.{askedBy, withNext, Read, ReadToEnd};
 use calls::Command;
 use calls::Options;
 use calls::asked_by;
+use calls::at_end;
 use calls::behind_names;
 use calls::is_fine;
 use calls::is_missing;
+use calls::lacks_first;
 use calls::start_of;
 use calls::trouble_of;
 use calls::with_next;
@@ -64,17 +66,21 @@ fn take_words(form: Options, from: usize, count: usize) -> Options
 
 // What a call of a command asks for. Where its words are wrong, that is said, and it is not to be obeyed.
 pub fn options_of(command: Command) -> Options
-    ensures { λ r. ⌜ ((count : ℕ) × Read (startOf command count) (behindNames command count) count r) ⌝ }
+    ensures { λ r. ⌜ ((count : ℕ) × ReadToEnd command count r) ⌝ }
 {
     let count = os::arg_count();
     if is_missing(command, count) {
         says::missing();
     }
-    take_words(
+    let options = take_words(
         start_of(command, count),
         behind_names(command, count),
         count,
-    )
+    );
+    if lacks_first(options) {
+        says::no_first();
+    }
+    at_end(options)
 }
 
 // The word i as the name of a file.

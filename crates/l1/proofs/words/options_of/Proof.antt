@@ -1,4 +1,5 @@
--- `l1::words::options_of` meets its contract: the words behind the names are taken, from what the command takes on. Assumes nothing.
+-- `l1::words::options_of` meets its contract: the words behind the names are taken, from what the command takes on, and at the end it is
+-- seen whether all that is due has come. Assumes nothing.
 use Prim.Native.Nat.{ℕ}
 use mathlib.Core.Path.{_≡_, subst}
 use Rattle.calls.specs.Words.{Read}
@@ -12,17 +13,27 @@ read-as {f} {g} {r} {a} {b} count p q t = subst (λ (x : ℕ). Read g x count r)
 
 returns : tie.Need-returns
 returns c =
+    let end : tie.After-at-end = search in
     let took : tie.After-take-words = search in
     let behind : tie.After-behind-names = search in
     let form : tie.After-start-of = search in
     let count : tie.After-arg-count = search in
-    let n = count .arg-count .result in
-    (n, read-as n (form .start-of .ensures) (behind .behind-names .ensures) (took .take-words .ensures))
+    let n = count .arg-count .result in (
+      n,
+      record {
+        before = took .take-words .result;
+        read = read-as n (form .start-of .ensures) (behind .behind-names .ensures) (took .take-words .ensures);
+        ended = end .at-end .ensures;
+      },
+    )
 
 pub options-of-spec : {M : Type 1} → statement M
 options-of-spec =
     tie.close
     (tie.spec
+    (λ c κs. search needs)
+    (λ c κs. search needs)
+    (λ c κs. search needs)
     (λ c κs. search needs)
     (λ c κs. search needs)
     (λ c κs. search needs)
