@@ -1,5 +1,5 @@
-# The checks of the recorded sessions, tests/sessions/list. Read with `.` behind tests/kit.sh, at the top of the repository; they use the
-# program, the front panel that build_c made, and target/second.
+# The checks of the recorded sessions, tests/sessions/list, and of the decks that are kept of machines, tests/sessions/prepared. Read with `.`
+# behind tests/kit.sh, at the top of the repository; they use the program, the front panel that build_c made, and target/second.
 
 # listings: each deck is what the keypunch makes of the listing beside it, and each kept output is on the list.
 listings() {
@@ -32,6 +32,21 @@ recorded() {
         same target/second session "$deck" $words || differences=$((differences + 1))
     done <tests/sessions/list
     echo "recorded: $count sessions, $differences differences"
+    [ "$count" -gt 0 ] && [ "$differences" -eq 0 ]
+}
+
+# prepared: each machine of tests/sessions/prepared, made new, loaded and run by the program; the deck made of it is the one that is kept.
+prepared() {
+    count=0 differences=0
+    while read -r kept deck words; do
+        case $kept in '' | '#'*) continue ;; esac
+        count=$((count + 1)) machine=$made/prepared.machine
+        rm -f "$machine"
+        program new "$machine" && program load "$machine" "$deck" && program run "$machine" "$deck" >"$made/prepared.out"
+        # shellcheck disable=SC2086
+        same program make "$machine" $words || differences=$((differences + 1))
+    done <tests/sessions/prepared
+    echo "prepared: $count machines, $differences differences"
     [ "$count" -gt 0 ] && [ "$differences" -eq 0 ]
 }
 

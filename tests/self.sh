@@ -54,6 +54,16 @@ with_fault() (
 # without_fault: what with_fault sees is the fault.
 without_fault() { ! with_fault ''; }
 
+# with_make FAULT COMMAND [WORDS..]: the command with the program tests/self/wrong-make, whose make has one fault, or none where it is empty.
+with_make() (
+    export L1_FAULT="$1" L1_PROGRAM="$PWD/tests/self/wrong-make"
+    shift
+    "$@"
+)
+
+# answers_with_none: what with_make sees is the fault.
+answers_with_none() { ! with_make '' tests/tool.sh answers; }
+
 fails 'rt proves nothing' with_rt proofs
 fails 'rt refuses nothing' with_rt wrong_programs
 fails 'a wrong program is lost' with_edit_lost expected
@@ -64,11 +74,31 @@ for program in tests/self/nothing tests/self/refuses; do
 done
 for program in nothing refuses refuses-work; do
     export L1_PROGRAM="$PWD/tests/self/$program"
-    for part in answers rooms foreign refused modes order stopped killed; do fails "tool-$part, $program" tests/tool.sh "$part"; done
+    for part in answers rooms foreign making refused modes order stopped killed; do fails "tool-$part, $program" tests/tool.sh "$part"; done
     fails "recorded, $program" recorded
+    fails "prepared, $program" prepared
     fails "door, $program" env L1_DOOR="$L1_PROGRAM" sh -c '. tests/kit.sh && . tests/checks.sh && door'
 done
 unset L1_PROGRAM
+fails 'tool-answers, make with no fault' answers_with_none
+while read -r fault parts; do
+    for part in $parts; do
+        case $part in
+        prepared) fails "prepared, make: $fault" with_make "$fault" prepared ;;
+        *) fails "tool-$part, make: $fault" with_make "$fault" tests/tool.sh "$part" ;;
+        esac
+    done
+done <<END
+nothing foreign making order prepared
+refuses making prepared
+line-end answers foreign making
+own-number answers prepared
+tells-a-cell foreign
+touches making
+rewrites making
+leaves making
+silent making
+END
 for stub in idle refusing silent; do
     for name in cases driver front; do
         if [ "$stub" = silent ]; then

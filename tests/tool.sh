@@ -4,6 +4,8 @@
 #   answers   each call of tests/tool/calls: both outputs are those stored in tests/tool/answers
 #   rooms     a run whose cards do not fit one room, against cards that are made here
 #   foreign   machine files that differ in unmarked cells alone: the same outputs, and these cells as they were
+#   making    decks made of machine files, against decks that are made here: they load the same cells on another machine, and the file stays
+#             as it was
 #   refused   files and outputs that cannot be written: the machine file stays as it was, and no new file is left beside it
 #   modes     a machine file is its owner's alone, when it is made and when it is replaced, whatever the old one's rights are
 #   order     the calls of the system in their order: cards, the new file whole and flushed, its new name, the Z card
@@ -57,8 +59,9 @@ loaded() {
     [ "$(location_of "$1")" = "$(first_of "$2")" ] || fail "load $*: nothing is loaded"
 }
 
-# The location in a machine file; the first order that the first-order card of a deck has.
+# The location and the problem number in a machine file; the first order that the first-order card of a deck has.
 location_of() { od -An -v -tu8 -j9000 -N8 "$1" | tr -d ' '; }
+problem_of() { od -An -v -tu8 -j9040 -N8 "$1" | tr -d ' '; }
 first_of() { sed -n 's/.*T\([0-9]\{3\}\).*/\1/p' "$1" | sed 's/^0*//'; }
 
 # A text of 1,000 numbers of up to 20 digits, most of them no words, drawn from a seed.
@@ -180,6 +183,18 @@ dumped() {
     od -An -v -tu1 -w1 -j8000 -N1000 "$1.machine" >"$1.marks"
 }
 
+# deck_of SIDE FIRST: the load deck of the cells and marks that were dumped, with the machine's own problem number.
+deck_of() {
+    paste "$1.marks" "$1.cells" | awk -v first="$2" -v problem="$(problem_of "$1.machine")" '
+        function punch() { if (n) printf "%d%04d%03d%s%03d", n, ++card, at, words, problem; n = 0; words = "" }
+        NR == 1 { next }
+        $1 != 1 { punch(); next }
+        !n { at = NR - 1 }
+        { words = words sprintf("%s%010.0f", $2 < 10000000000 ? "+" : "-", $2 % 10000000000) }
+        ++n == 5 { punch() }
+        END { punch(); printf "T%03d%03d", first, problem }'
+}
+
 # unseen: of both sides each cell that is unmarked now was so before the call and holds what it held, and there are such cells. Between the
 # sides all marks are the same, and all marked cells; the state too; and there are unmarked cells that differ.
 unseen() {
@@ -204,6 +219,7 @@ happened() {
         load) [ "$(location_of one.machine)" = "$(first_of d.deck)" ] && loads=$((loads + 1)) ;;
         run) ends_in_z one.out && runs=$((runs + 1)) ;;
         cells) [ "$(wc -l <one.out)" -eq "$(grep -c 1 one.marks)" ] && shows=$((shows + 1)) ;;
+        make) cmp -s one.before one.machine && deck_of one 101 | cmp -s - one.out && makes=$((makes + 1)) ;;
         esac
     fi
 }
@@ -224,7 +240,7 @@ twice() {
 }
 
 foreign() {
-    loads=0 runs=0 shows=0 refusals=0 good=0 bad=0
+    loads=0 runs=0 shows=0 makes=0 refusals=0 good=0 bad=0
     mkdir one other
     for deck in *.deck "$root"/examples/*.deck; do
         case ${deck##*/} in bad.deck | nofirst.deck) bad=$((bad + 1)) ;; *) good=$((good + 1)) ;; esac
@@ -237,22 +253,119 @@ foreign() {
             dumped "$side"
         done
         twice run m.machine d.deck
+        twice make m.machine first=101
         for mode in '' traced; do
             # shellcheck disable=SC2086
             twice load m.machine d.deck $mode
             twice cells m.machine
+            twice make m.machine first=101
             for words in budget=0 budget=1 'budget=2 stop' 'budget=1000 stop' budget=1000 budget=1000; do
                 # shellcheck disable=SC2086
                 twice run m.machine d.deck $words
             done
             twice cells m.machine
+            twice make m.machine first=101
         done
     done
-    # of each deck two loads, with six runs and two listings behind each; refused are the run before the first load, and all of a bad deck
+    # of each deck two loads, with six runs, two listings and two decks made behind each, and one deck before them; refused are the run before
+    # the first load, and all of a bad deck
     [ "$good" -gt 9 ] && [ "$bad" -eq 2 ] && [ "$loads" -eq $((2 * good)) ] && [ "$runs" -eq $((12 * good)) ] &&
-        [ "$shows" -eq $((4 * (good + bad))) ] && [ "$refusals" -eq $((good + bad + 14 * bad)) ] ||
-        fail "$good good decks and $bad bad: $loads loads, $runs runs, $shows listings, $refusals refusals"
-    echo "tool: $loads loads, $runs runs, $shows listings and $refusals refused calls on two machine files each"
+        [ "$shows" -eq $((4 * (good + bad))) ] && [ "$makes" -eq $((5 * (good + bad))) ] &&
+        [ "$refusals" -eq $((good + bad + 14 * bad)) ] ||
+        fail "$good good decks and $bad bad: $loads loads, $runs runs, $shows listings, $makes decks made, $refusals refusals"
+    echo "tool: $loads loads, $runs runs, $shows listings, $makes decks made and $refusals refused calls on two machine files each"
+}
+
+# ---- making
+
+# untouched COMMAND [WORDS..]: the command leaves m.machine as it was, byte for byte and by its times, and makes no file. Its outputs are in
+# out and err.
+untouched() {
+    cp m.machine old.machine && : >out && : >err || fail 'no machine file'
+    stat -c '%i %y %z %a' m.machine >old.times && ls -a >old.files
+    "$@" >out 2>err
+    same "$*" old.machine m.machine
+    stat -c '%i %y %z %a' m.machine | cmp -s - old.times || fail "$*: the machine file is touched"
+    ls -a | cmp -s - old.files || fail "$*: a file is made"
+}
+
+# made_and_loaded WHAT FIRST: the deck of m.machine is the one that is made here; loaded on a machine with other numbers in its cells it gives
+# the same cells, 000 aside, and the deck of that machine is the same.
+made_and_loaded() {
+    dumped m
+    deck_of m "$2" >expected
+    untouched l1 make m.machine "first=$2"
+    same "the deck of $1" expected out
+    [ ! -s err ] || fail "the deck of $1: $(cat err)"
+    cp out made.deck
+    [ "$(l1 deck made.deck)" = good ] || fail "the deck of $1 is no good one"
+    rm -f two.machine && made_machine two.machine two.text
+    loaded two.machine made.deck
+    for side in m two; do l1 cells "$side.machine" 2>>err | sed '/^  000 /d' >"$side.lines"; done
+    same_said "the cells of $1" m.lines two.lines
+    [ "$(wc -l <two.lines)" -eq "$(sed 1d m.marks | grep -c 1)" ] || fail "the cells of $1: $(wc -l <two.lines) of them"
+    l1 make two.machine "first=$2" >again.deck 2>>err
+    same "the deck of $1 made again" made.deck again.deck
+    [ ! -s err ] || fail "$1: $(cat err)"
+    decks=$((decks + 1))
+}
+
+# run_alike WHAT: the made deck, with the cards that d.deck has behind its first-order card behind it, runs as d.deck does.
+run_alike() {
+    { cat made.deck && sed 's/.*T[0-9]\{6\}//' d.deck; } >job.deck
+    for mode in '' traced; do
+        # shellcheck disable=SC2086
+        for side in job d; do l1 session "$side.deck" budget=1000 $mode >"$side.out" 2>>err; done
+        same "$1 $mode" job.out d.out
+        ends_in_z job.out && [ ! -s err ] || fail "$1 $mode: no run: $(cat err)"
+    done
+}
+
+to_full() { l1 "$@" >/dev/full; }
+to_none() { l1 "$@" >&-; }
+
+making() {
+    decks=0
+    drawn_cells 1 >one.text
+    drawn_cells 2 >two.text
+    made_machine m.machine one.text
+    made_and_loaded 'a new machine' 1
+    punch_deck >punch.deck
+    for deck in *.deck "$root"/examples/*.deck; do
+        case ${deck##*/} in bad.deck | nofirst.deck) continue ;; esac
+        cp "$deck" d.deck && rm -f m.machine || fail "no deck $deck"
+        made_machine m.machine one.text
+        loaded m.machine d.deck
+        made_and_loaded "$deck, loaded" "$(first_of d.deck)"
+        run_alike "$deck, run from the deck made"
+        [ "$deck" != punch.deck ] || [ "$(wc -c <made.deck)" -eq 13196 ] || fail 'the longest deck has other than 13196 bytes'
+        l1 run m.machine d.deck budget=1000 >run.out 2>run.err && ends_in_z run.out || fail "$deck: no run"
+        made_and_loaded "$deck, run" "$(first_of d.deck)"
+    done
+    # outputs that cannot be written, and a link
+    for command in to_full to_none; do
+        untouched "$command" make m.machine first=7
+        grep -q '^l1: standard output: ' err && [ ! -s out ] || fail "$command: $(cat out err)"
+    done
+    ln -s m.machine link.machine
+    dumped m
+    deck_of m 7 >expected
+    untouched l1 make link.machine first=7
+    same 'a link' expected out
+    [ -L link.machine ] || fail 'a link is none any more'
+    # a file that may only be read, in a folder in which no file can be made
+    free=$(mktemp -d) && mkdir "$free/closed" || exit 2
+    cp "${L1_PROGRAM:-$root/target/bin/l1}" "$free/program" && cp m.machine "$free/closed"
+    chmod 755 "$free" "$free/program" && chmod 444 "$free/closed/m.machine" && chmod 555 "$free/closed"
+    cd "$free/closed" || exit 2
+    bound ../program make m.machine first=7 >"$here/out" 2>"$here/err"
+    cd "$here" || exit 2
+    same 'a file that may only be read' expected out
+    [ ! -s err ] && cmp -s m.machine "$free/closed/m.machine" && [ "$(ls -A "$free/closed")" = m.machine ] || fail 'a file that may only be read'
+    chmod 755 "$free/closed"
+    rm -r "$free"
+    [ "$decks" -gt 20 ] || fail "$decks decks"
+    echo "tool: $decks decks made and loaded again, and 4 calls on files and outputs of other kinds"
 }
 
 # ---- refused
@@ -382,8 +495,9 @@ order() {
     in_order run m.machine sum.deck = readlink open read close open read close cards mkstemp write fsync close rename cards
     in_order run m.machine sum.deck = readlink open read close open read close mkstemp write fsync close rename cards
     in_order cells m.machine = open read close cards
+    in_order make m.machine first=101 = open read close cards
     in_order session sum.deck = open read close cards
-    echo 'tool: 6 calls, what they ask of the system in its order'
+    echo 'tool: 7 calls, what they ask of the system in its order'
 }
 
 # ---- stopped
@@ -478,6 +592,26 @@ each_new() {
     [ "$was_old" -gt 0 ] && [ "$was_new" -gt 0 ] && [ "$was_short" -gt 0 ] || fail "l1 $*: none $was_old, whole $was_new, short $was_short times"
 }
 
+# on_read WORDS..: one moment of a call that only reads m.machine: that stays, no file is made, and what comes out is a beginning of what would
+# have; where that is not all of it after a call that failed, it is said.
+on_read() {
+    stopped_at "$@"
+    cmp -s m.machine old.machine || fail "l1 $*: call $k of $count, $how: the machine file is another"
+    [ "$(ls | grep -c 'new-')" -eq 0 ] || fail "l1 $*: call $k of $count, $how: a new file"
+    head -c "$(wc -c <out)" new.out | cmp -s - out || fail "l1 $*: call $k of $count, $how: other bytes"
+    [ "$how" != f ] || [ -s err ] || cmp -s new.out out || fail "l1 $*: call $k fails: nothing was said"
+}
+
+# each_read WORDS..: on the file m.machine.
+each_read() {
+    cp m.machine old.machine
+    counted "$@"
+    [ -s new.out ] || fail "l1 $*: nothing comes out"
+    each_moment on_read "$@"
+    (before=$made/stop.so && export before L1_SHORT=100 && l1 "$@") >out 2>err 9>count
+    same "l1 $*: short writes" new.out out
+}
+
 stopped() {
     old=0 new=0 stops=0
     build_before stop.so "$root/tests/tool/stop.c" || fail 'no library'
@@ -491,6 +625,7 @@ stopped() {
     each_call run m.machine sum.deck
     loaded old.machine punch.deck
     each_call run m.machine punch.deck budget=20
+    each_read make m.machine first=101
     echo "tool: stopped $stops times, the old file $old times, the new one $new times"
 }
 
@@ -537,7 +672,7 @@ killed() {
 }
 
 case $part in
-answers | rooms | foreign | refused | modes | order | stopped | killed) "$part" ;;
+answers | rooms | foreign | making | refused | modes | order | stopped | killed) "$part" ;;
 *)
     echo "tool: $part is no part" >&2
     exit 2
