@@ -57,7 +57,7 @@ second_tests() {
 
 # second_self: the second program's trial of its own judges, and that it says so.
 second_self() {
-    "${L1_SECOND:-target/second}" self 2000 "$seed" >"$made/second-self.out" 2>&1 || { cat "$made/second-self.out" && return 1; }
+    "${L1_SECOND:-target/second}" self 1000 "$seed" >"$made/second-self.out" 2>&1 || { cat "$made/second-self.out" && return 1; }
     grep '^self: all as it must be' "$made/second-self.out"
 }
 

@@ -266,13 +266,13 @@ foreign() {
             twice cells m.machine
             twice make m.machine first=101
         done
+        # of each deck two loads, with six runs, two listings and two decks made behind each, and one deck before them; refused are the run
+        # before the first load, and all of a bad deck
+        [ "$loads" -eq $((2 * good)) ] && [ "$runs" -eq $((12 * good)) ] && [ "$shows" -eq $((4 * (good + bad))) ] &&
+            [ "$makes" -eq $((5 * (good + bad))) ] && [ "$refusals" -eq $((good + bad + 14 * bad)) ] ||
+            fail "$good good decks and $bad bad: $loads loads, $runs runs, $shows listings, $makes decks made, $refusals refusals"
     done
-    # of each deck two loads, with six runs, two listings and two decks made behind each, and one deck before them; refused are the run before
-    # the first load, and all of a bad deck
-    [ "$good" -gt 9 ] && [ "$bad" -eq 2 ] && [ "$loads" -eq $((2 * good)) ] && [ "$runs" -eq $((12 * good)) ] &&
-        [ "$shows" -eq $((4 * (good + bad))) ] && [ "$makes" -eq $((5 * (good + bad))) ] &&
-        [ "$refusals" -eq $((good + bad + 14 * bad)) ] ||
-        fail "$good good decks and $bad bad: $loads loads, $runs runs, $shows listings, $makes decks made, $refusals refusals"
+    [ "$good" -gt 9 ] && [ "$bad" -eq 2 ] || fail "$good good decks and $bad bad"
     echo "tool: $loads loads, $runs runs, $shows listings, $makes decks made and $refusals refused calls on two machine files each"
 }
 
@@ -330,18 +330,7 @@ making() {
     drawn_cells 2 >two.text
     made_machine m.machine one.text
     made_and_loaded 'a new machine' 1
-    punch_deck >punch.deck
-    for deck in *.deck "$root"/examples/*.deck; do
-        case ${deck##*/} in bad.deck | nofirst.deck) continue ;; esac
-        cp "$deck" d.deck && rm -f m.machine || fail "no deck $deck"
-        made_machine m.machine one.text
-        loaded m.machine d.deck
-        made_and_loaded "$deck, loaded" "$(first_of d.deck)"
-        run_alike "$deck, run from the deck made"
-        [ "$deck" != punch.deck ] || [ "$(wc -c <made.deck)" -eq 13196 ] || fail 'the longest deck has other than 13196 bytes'
-        l1 run m.machine d.deck budget=1000 >run.out 2>run.err && ends_in_z run.out || fail "$deck: no run"
-        made_and_loaded "$deck, run" "$(first_of d.deck)"
-    done
+    loaded m.machine sum.deck
     # outputs that cannot be written, and a link
     for command in to_full to_none; do
         untouched "$command" make m.machine first=7
@@ -363,7 +352,19 @@ making() {
     same 'a file that may only be read' expected out
     [ ! -s err ] && cmp -s m.machine "$free/closed/m.machine" && [ "$(ls -A "$free/closed")" = m.machine ] || fail 'a file that may only be read'
     chmod 755 "$free/closed"
-    rm -r "$free"
+    rm -r "$free" && rm link.machine
+    punch_deck >punch.deck
+    for deck in *.deck "$root"/examples/*.deck; do
+        case ${deck##*/} in bad.deck | nofirst.deck) continue ;; esac
+        cp "$deck" d.deck && rm -f m.machine || fail "no deck $deck"
+        made_machine m.machine one.text
+        loaded m.machine d.deck
+        made_and_loaded "$deck, loaded" "$(first_of d.deck)"
+        run_alike "$deck, run from the deck made"
+        [ "$deck" != punch.deck ] || [ "$(wc -c <made.deck)" -eq 13196 ] || fail 'the longest deck has other than 13196 bytes'
+        l1 run m.machine d.deck budget=1000 >run.out 2>run.err && ends_in_z run.out || fail "$deck: no run"
+        made_and_loaded "$deck, run" "$(first_of d.deck)"
+    done
     [ "$decks" -gt 20 ] || fail "$decks decks"
     echo "tool: $decks decks made and loaded again, and 4 calls on files and outputs of other kinds"
 }

@@ -1,15 +1,14 @@
 // The cards of the deck, written one behind the other into what is left of the output.
 ghost use mathlib.Core.Path.{_≡_};
-ghost use mathlib.Core.List.{_++_};
 ghost use Prim.Native.Nat.{_+_, _*_, _≤_};
 ghost use lib.ListN.{length};
 ghost use Rattle.rules.specs.Drum.{view};
-ghost use Rattle.rules.specs.Cards.{dataCard, firstCard};
+ghost use Rattle.rules.specs.Cards.{dataCard};
 ghost use Rattle.rules.specs.Orders.{wordsFrom};
 ghost use Rattle.rules.specs.Running.{over};
-ghost use Rattle.rules.specs.Making.{blocksIn, cardsFor, deckMade};
+ghost use Rattle.rules.specs.Making.{deckMade};
 ghost use Rattle.bytes.specs.Put.{splice};
-ghost use Rattle.making.specs.Made.{Sound};
+ghost use Rattle.making.specs.Made.{Sound, cardsOf};
 use crate::blocks::card_from;
 
 // The card of the n cells from a on, at a place of the output.
@@ -36,10 +35,9 @@ fn write_card(
 fn write_cards(drum: &[u64], marks: &[u8], out: &mut [u8], problem: u64) -> usize
     requires { ⌜ Sound (now drum) (now marks) ⌝ }
     requires { ⌜ problem ≤ 999 ⌝ }
-    requires { ⌜ length (cardsFor (view (now drum) (now marks)) problem 1 (blocksIn (view (now drum) (now marks)))) ≤ length (now out) ⌝ }
-    ensures { λ r. ⌜ r ≡ length (cardsFor (view (now (drum .entry)) (now (marks .entry))) problem 1 (blocksIn (view (now (drum .entry)) (now (marks .entry))))) ⌝ }
-    ensures { λ r. ⌜ now (out .exit)
-        ≡ over (cardsFor (view (now (drum .entry)) (now (marks .entry))) problem 1 (blocksIn (view (now (drum .entry)) (now (marks .entry))))) (now (out .entry)) ⌝ }
+    requires { ⌜ length (cardsOf (now drum) (now marks) problem) ≤ length (now out) ⌝ }
+    ensures { λ r. ⌜ r ≡ length (cardsOf (now (drum .entry)) (now (marks .entry)) problem) ⌝ }
+    ensures { λ r. ⌜ now (out .exit) ≡ over (cardsOf (now (drum .entry)) (now (marks .entry)) problem) (now (out .entry)) ⌝ }
 {
     let mut at: usize = 0;
     let mut number: u64 = 1;

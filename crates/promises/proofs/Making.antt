@@ -242,10 +242,10 @@ module _ (c : MakeCall) (n : ℕ) (h : Done c n (made c)) (drum marks : List ℕ
       })
 
 pub loads-the-same : LoadsTheSame
-loads-the-same c n e drum marks fits clear s traced = restored c n (done c n e) drum marks fits clear s traced
+loads-the-same c n e drum marks k s traced = restored c n (done c n e) drum marks (k .valid) (k .unmarked) s traced
 
 pub same-deck-again : SameDeckAgain
-same-deck-again c n e drum marks fits clear s traced room l = made-again c n (done c n e) drum marks fits clear s traced room l
+same-deck-again c n e drum marks k s traced room l = made-again c n (done c n e) drum marks (k .valid) (k .unmarked) s traced room l
 
 -- ---- what is written
 

@@ -88,6 +88,11 @@ FewestOfDecks =
 
 -- ---- loads the same
 
+-- a valid drum with all marks 0
+pub record Clear (drum marks : List ℕ) : Type 0 where
+  pub valid : drumFits (length drum) marks (view drum marks) ≡ true
+  pub unmarked : (a : ℕ) → getD marks a 0 ≡ 0
+
 -- what a load of the deck that c made, of n bytes, leaves on another drum
 pub record Restored (c : MakeCall) (n : ℕ) (drum : List ℕ) (traced : Bool) (x : LoadResult) : Type 0 where
   -- it is loaded, with first order and problem number as they were given
@@ -110,7 +115,7 @@ MadeIsGood = (c : MakeCall) (n : ℕ) → made c .making ≡ Made n → deckOf (
 abbrev pub LoadsTheSame : Type 0
 LoadsTheSame =
     (c : MakeCall) (n : ℕ) → made c .making ≡ Made n
-    → (drum marks : List ℕ) → drumFits (length drum) marks (view drum marks) ≡ true → ((a : ℕ) → getD marks a 0 ≡ 0)
+    → (drum marks : List ℕ) → Clear drum marks
     → (s : State) (traced : Bool) → Restored c n drum traced (loaded (loadOf drum marks (take n (made c .out)) s traced))
 
 -- And a deck made of the cells that it gave, with the same first order and problem number, is the same deck, in any room that holds it.
@@ -121,7 +126,7 @@ pub record MadeAlike (n : ℕ) (x y : MakeResult) : Type 0 where
 abbrev pub SameDeckAgain : Type 0
 SameDeckAgain =
     (c : MakeCall) (n : ℕ) → made c .making ≡ Made n
-    → (drum marks : List ℕ) → drumFits (length drum) marks (view drum marks) ≡ true → ((a : ℕ) → getD marks a 0 ≡ 0)
+    → (drum marks : List ℕ) → Clear drum marks
     → (s : State) (traced : Bool) (room : List ℕ) → n ≤ length room
     → let x = loaded (loadOf drum marks (take n (made c .out)) s traced) in
     MadeAlike n (made c) (made (makeOf (x .drum) (x .marks) room (c .order) (c .problem)))

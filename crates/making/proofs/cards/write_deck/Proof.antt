@@ -4,15 +4,14 @@ use native.Mathlib.Omega.{arith}
 use borrow.Author.Needs.{needs}
 use lib.ListN.{length}
 use Rattle.rules.specs.Drum.{view}
-use Rattle.rules.specs.Making.{blocksIn, cardsFor, deckMade}
+use Rattle.rules.specs.Making.{blocksIn, deckMade}
 use Rattle.rules.proofs.MadeSizes.{cards-bytes, deck-bytes}
+use Rattle.making.specs.Made.{cardsOf}
 use Rattle.making.proofs.Writing.{first-stands}
 use Rattle.making.proofs.cards.write_deck.Statement.{statement}
 use Rattle.making.proofs.cards.write_deck.Tie as tie
 
-room : (c : tie.Start)
-    → length (cardsFor (view (c .args .drum .now) (c .args .marks .now)) (c .args .problem) 1 (blocksIn (view (c .args .drum .now) (c .args .marks .now))))
-    ≤ length (c .args .out .now)
+room : (c : tie.Start) → length (cardsOf (c .args .drum .now) (c .args .marks .now) (c .args .problem)) ≤ length (c .args .out .now)
 room c =
     let v = view (c .args .drum .now) (c .args .marks .now) in
     omega (arith, deck-bytes v (c .args .order) (c .args .problem), cards-bytes v (c .args .problem) 1 (blocksIn v), c .pre .1 .1)
