@@ -13,9 +13,8 @@ use Rattle.rules.specs.Orders.{wordsFrom, five, cardPunched, cardsPunched, punc
 use Rattle.rules.specs.declared.Cell.{Cell}
 use Rattle.rules.specs.declared.Outcome.the-variants.{GoesOn, Undone}
 use Rattle.rules.specs.declared.Refusal.the-variants.{NoRoom}
-use Rattle.rules.proofs.Fields.{length-data}
 use Rattle.rules.proofs.Parts.{partOf, putBack}
-use Rattle.rules.proofs.Punching.{words-long}
+use Rattle.rules.proofs.Punching.{card-bytes}
 use Rattle.card.specs.Written.{Wrote as WroteCard, dataMay}
 use Rattle.card.proofs.Writes.{all-words}
 use Rattle.drum.specs.Blocks.{firstWords}
@@ -60,8 +59,7 @@ module _ {drum₀ out₀ drum marks out row : List ℕ} {m : Machine} (h : Shows
   card-sent wrote e =
       card-shown h (dataCard ((m .state .counter + 1) % 10000) b (wordsFrom (m .cells) b n) (m .state .problem)) (11 + 11 * n) wrote may
       (λ i. dataCard (getD (row-up i) 4 0) b (words-are i) (getD (row-up i) 5 0))
-      (length-data ((m .state .counter + 1) % 10000) b (wordsFrom (m .cells) b n) (m .state .problem)
-      ∙ ap (λ (x : ℕ). 11 + 11 * x) (words-long (m .cells) b n)) space e
+      (card-bytes (m .cells) ((m .state .counter + 1) % 10000) b n (m .state .problem)) space e
 
 -- ---- all cards of a block
 

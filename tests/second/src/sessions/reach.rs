@@ -145,13 +145,19 @@ pub fn lines_of_12() -> Vec<Reason> {
     lines
 }
 
+/// Every line of 10.
+pub fn lines_of_10() -> Vec<Reason> {
+    let mut lines = Vec::new();
+    lines.extend(LENGTHS.map(Reason::DrumLength));
+    lines.extend(LENGTHS.map(Reason::MarksLength));
+    lines.extend(MARKS.map(Reason::MarkAboveOne));
+    lines.extend([Above::Near, Above::Far].map(Reason::MarkedCellNoWord));
+    lines
+}
+
 /// What a load and a run refuse alike.
 fn of_both() -> Vec<Reason> {
-    let mut both = Vec::new();
-    both.extend(LENGTHS.map(Reason::DrumLength));
-    both.extend(LENGTHS.map(Reason::MarksLength));
-    both.extend(MARKS.map(Reason::MarkAboveOne));
-    both.extend([Above::Near, Above::Far].map(Reason::MarkedCellNoWord));
+    let mut both = lines_of_10();
     both.extend(FAULTS.map(Reason::Deck));
     both.extend(LENGTHS.map(Reason::StateLength));
     both

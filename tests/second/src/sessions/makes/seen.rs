@@ -4,9 +4,10 @@ use super::law::parts;
 use super::layout::{deck_length, runs};
 use super::LEAST;
 use crate::model::drum::{judge, CELLS};
-use crate::model::stop::{Above, Length, Mark, Reason};
+use crate::model::stop::Reason;
 use crate::model::word::{Word, MINUS};
 use crate::sessions::message::{Make, Message};
+use crate::sessions::reach::lines_of_10;
 
 /// The first order that is asked for.
 #[derive(Clone, Copy, Debug, PartialEq, Eq, PartialOrd, Ord)]
@@ -106,20 +107,9 @@ pub enum Seen {
 
 const ENDS: [At; 3] = [At::Start, At::Between, At::End];
 pub const FAR: [Far; 5] = [Far::ByOne, Far::Low16, Far::Low32, Far::Most, Far::Any];
-const LENGTHS: [Length; 3] = [Length::Short, Length::Long, Length::Multiple];
-const MARKS: [Mark; 4] = [Mark::Two, Mark::Three, Mark::Even, Mark::Odd];
 
 /// A run of more cells than this is a long one.
 const LONG: usize = 11;
-
-fn lines_of_10() -> Vec<Reason> {
-    let mut lines = Vec::new();
-    lines.extend(LENGTHS.map(Reason::DrumLength));
-    lines.extend(LENGTHS.map(Reason::MarksLength));
-    lines.extend(MARKS.map(Reason::MarkAboveOne));
-    lines.extend([Above::Near, Above::Far].map(Reason::MarkedCellNoWord));
-    lines
-}
 
 /// Every line of 10 with everything else, and everything else with itself. What stands alone comes
 /// first, then two at once, and so on.
