@@ -12,8 +12,8 @@ use Rattle.rules.specs.Words.{pick}
 use Rattle.rules.specs.Numbers.{mayGoOn, completed}
 use Rattle.rules.specs.Drum.{view, drumFits}
 use Rattle.rules.specs.Decks.{deckOf}
-use Rattle.rules.specs.Machine.{Machine, Inputs, countA, countB, countC}
-use Rattle.rules.specs.Running.{RunCall, Course, step, runFrom, over, begun, boxFits, stateFits, notRun, ranAs, ranOn, ran}
+use Rattle.rules.specs.Machine.{Machine, Inputs, countA, countB, countC, present}
+use Rattle.rules.specs.Running.{RunCall, Course, step, runFrom, over, begun, boxFits, stateFits, notRun, ranAs, ranOn, ranBy, ran}
 use Rattle.rules.specs.declared.Cell.{Cell}
 use Rattle.rules.specs.declared.State.{State}
 use Rattle.rules.specs.declared.Deck.{Deck}
@@ -88,13 +88,13 @@ module _ (x : RunCall) where
 
   pub run-bad-drum : drumFits (length (x .drum)) (x .marks) (view (x .drum) (x .marks)) ≡ false
       → RunRight (ran x) (x .drum) (x .marks) (x .out) (barredAs BadDrum (x .state))
-  unfolding ran
+  unfolding ranBy
   run-bad-drum e = barred-right BadDrum (rw e)
 
   module _ (fit : drumFits (length (x .drum)) (x .marks) (view (x .drum) (x .marks)) ≡ true) where
-    ran-is : (d : Deck) → d ≡ deckOf (x .deck) → ran x ≡ ranOn x d
-    unfolding ran
-    ran-is d e = ap (λ (t : Bool). pick t (ranOn x (deckOf (x .deck))) (notRun x BadDrum)) fit ∙ ap (ranOn x) (sym e)
+    ran-is : (d : Deck) → d ≡ deckOf (x .deck) → ran x ≡ ranOn present x d
+    unfolding ranBy
+    ran-is d e = ap (λ (t : Bool). pick t (ranOn present x (deckOf (x .deck))) (notRun x BadDrum)) fit ∙ ap (ranOn present x) (sym e)
 
     pub run-bad-deck : (f : DeckFault) → Faulty f ≡ deckOf (x .deck) → RunRight (ran x) (x .drum) (x .marks) (x .out) (barredAs (BadDeck f) (x .state))
     unfolding ranOn

@@ -10,7 +10,8 @@ use Rattle.rules.specs.Words.{pick}
 use Rattle.rules.specs.Drum.{view, drumFits}
 use Rattle.rules.specs.Decks.{deckOf}
 use Rattle.rules.specs.Loads.{LoadCall, notLoaded, loadedFrom, loaded}
-use Rattle.rules.specs.Running.{RunCall, notRun, begun, inputs, runFrom, stateFits, ranAs, ranOn, ran}
+use Rattle.rules.specs.Machine.{present}
+use Rattle.rules.specs.Running.{RunCall, notRun, begun, inputs, runFrom, stateFits, ranAs, ranOn, ranBy}
 use Rattle.rules.specs.States.{stateIn, numbersOf}
 use Rattle.rules.specs.declared.Deck.{Deck}
 use Rattle.rules.specs.declared.Deck.the-variants.{Good, Faulty}
@@ -69,8 +70,8 @@ begun-state c true b e = absurd (true≢false (ap hasRun e))
 begun-state c false b e = refl
 
 run-state : (c : RunCall) (t u : Bool) (d : Deck) (k b : Bar)
-    → pick t (pick u (ranOn c d) (notRun c BadDrum)) (notRun c k) .ending ≡ NotRun b
-    → pick t (pick u (ranOn c d) (notRun c BadDrum)) (notRun c k) .state ≡ c .state
+    → pick t (pick u (ranOn present c d) (notRun c BadDrum)) (notRun c k) .ending ≡ NotRun b
+    → pick t (pick u (ranOn present c d) (notRun c BadDrum)) (notRun c k) .state ≡ c .state
 unfolding ranOn
 run-state c false u d k b e = refl
 run-state c true false d k b e = refl
@@ -81,7 +82,7 @@ run-state c true true (Good behind order problem) k b e =
 pub run-keeps : (drum marks deck out row : List ℕ) (budget stop : ℕ) (b : Bar)
     → runCalled row (runCall drum marks deck out row budget stop) .ending ≡ NotRun b
     → rowAfter row (runCalled row (runCall drum marks deck out row budget stop) .state) ≡ row
-unfolding runCalled ran
+unfolding runCalled ranBy
 run-keeps drum marks deck out row budget stop b e =
     ap (rowAfter row)
     (run-state (runCall drum marks deck out row budget stop) (isState row) (drumFits (length drum) marks (view drum marks)) (deckOf deck) (barred drum marks deck) b e)

@@ -7,9 +7,9 @@ use mathlib.Core.Bool.{Bool, true, false, true≢false}
 use lib.ListN.{length}
 use Rattle.rules.specs.Drum.{view, drumFits}
 use Rattle.rules.specs.Decks.{deckOf}
-use Rattle.rules.specs.Running.{RunCall, RunResult, notRun, stateFits, ranOn, ran}
+use Rattle.rules.specs.Running.{RunCall, RunResult, notRun, stateFits, ranOn, ranBy, ran}
 use Rattle.rules.specs.declared.Refusal.the-variants.{BadAddress, Unmarked, NoRoom, NotBuilt, NotNumber, ZeroDivisor, NegativeRoot, OutOfRange, Unfit, NoCard}
-use Rattle.rules.specs.declared.Stop.the-variants.{Unconditional, Conditional}
+use Rattle.rules.specs.declared.Stop.the-variants.{Unconditional, Conditional, Lost}
 use Rattle.rules.specs.declared.Outcome.{Outcome}
 use Rattle.rules.specs.declared.Outcome.the-variants.{GoesOn, Stops, Undone}
 use Rattle.rules.specs.declared.DeckFault.the-variants.{TooLong, At, NoFirst}
@@ -35,6 +35,7 @@ full-is (NotRun BadState) t = false-true t
 full-is (Ran GoesOn) t = false-true t
 full-is (Ran (Stops Unconditional w)) t = false-true t
 full-is (Ran (Stops Conditional w)) t = false-true t
+full-is (Ran (Stops Lost w)) t = false-true t
 full-is (Ran (Undone BadAddress)) t = false-true t
 full-is (Ran (Undone Unmarked)) t = false-true t
 full-is (Ran (Undone NoRoom)) t = refl
@@ -66,7 +67,7 @@ Barred c = (b : Bar) × ((out : List ℕ) → ran (within c out) ≡ notRun (wit
 
 module _ (c : RunCall) (fits : drumFits (length (c .drum)) (c .marks) (view (c .drum) (c .marks)) ≡ true) where
   judged-deck : (k : Deck) → deckOf (c .deck) ≡ k → Entered c ⊎ Barred c
-  unfolding ran ranOn
+  unfolding ranBy ranOn
   judged-deck (Faulty f) q = inr (BadDeck f, λ out. rw (fits, q))
   judged-deck (Good first order problem) q = by-state (stateFits (view (c .drum) (c .marks)) (c .deck) first (c .state) (c .budget)) refl
     where
@@ -75,7 +76,7 @@ module _ (c : RunCall) (fits : drumFits (length (c .drum)) (c .marks) (view (c .
       by-state false f = inr (BadState, λ out. rw (fits, q, f))
 
 pub either-way : (c : RunCall) → Entered c ⊎ Barred c
-unfolding ran
+unfolding ranBy
 either-way c = by-fit (drumFits (length (c .drum)) (c .marks) (view (c .drum) (c .marks))) refl
   where
     by-fit : (t : Bool) → drumFits (length (c .drum)) (c .marks) (view (c .drum) (c .marks)) ≡ t → Entered c ⊎ Barred c

@@ -8,8 +8,8 @@ use lib.ListN.{length}
 use Rattle.rules.specs.Numbers.{completed, mayGoOn}
 use Rattle.rules.specs.Drum.{view, drumFits}
 use Rattle.rules.specs.Decks.{deckOf}
-use Rattle.rules.specs.Machine.{Machine, Inputs}
-use Rattle.rules.specs.Running.{Course, step, runFrom, RunCall, RunResult, begun, inputs, over, ranAs, stateFits, ranOn, ran}
+use Rattle.rules.specs.Machine.{Machine, Inputs, present}
+use Rattle.rules.specs.Running.{Course, step, runFrom, RunCall, RunResult, begun, inputs, over, ranAs, stateFits, ranOn, ranBy, ran}
 use Rattle.rules.specs.declared.Outcome.{Outcome}
 use Rattle.rules.specs.declared.Outcome.the-variants.{GoesOn, Stops, Undone}
 use Rattle.rules.specs.declared.Deck.{Deck}
@@ -70,18 +70,18 @@ module _ (c : RunCall) (o : Outcome) (z : c .budget ≡ 0) (h : Fit (c .drum) (c
   nothing-run =
       ap (λ (k : ℕ). ranAs c (runFrom (inputs c) k (begun c) 0)) z ∙ rw (overlay-view (c .drum) (c .marks), marks-again (c .drum) (c .marks) h)
 
-  zero-from : (k : Deck) → ranOn c k .ending ≡ Ran o → ranOn c k ≡ idle c
+  zero-from : (k : Deck) → ranOn present c k .ending ≡ Ran o → ranOn present c k ≡ idle c
   unfolding ranOn
   zero-from (Faulty f) e = differs o (BadDeck f) e
   zero-from (Good behind order problem) e = by-state (stateFits (view (c .drum) (c .marks)) (c .deck) behind (c .state) (c .budget)) refl
     where
       by-state : (t : Bool) → stateFits (view (c .drum) (c .marks)) (c .deck) behind (c .state) (c .budget) ≡ t
-          → ranOn c (Good behind order problem) ≡ idle c
+          → ranOn present c (Good behind order problem) ≡ idle c
       by-state true f = rw f nothing-run
       by-state false f = differs o BadState (rw f at e)
 
 pub zero-budget-does-nothing : ZeroBudgetDoesNothing
-unfolding ran
+unfolding ranBy
 zero-budget-does-nothing c o z e = by-fit (drumFits (length (c .drum)) (c .marks) (view (c .drum) (c .marks))) refl
   where
     by-fit : (t : Bool) → drumFits (length (c .drum)) (c .marks) (view (c .drum) (c .marks)) ≡ t → ran c ≡ idle c

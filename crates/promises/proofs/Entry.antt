@@ -9,7 +9,8 @@ use lib.ListN.{length}
 use borrow.Author.Tests.{eq-eqb}
 use Rattle.rules.specs.Drum.{view, marksOf, overlay, drumFits}
 use Rattle.rules.specs.Decks.{deckOf}
-use Rattle.rules.specs.Running.{RunCall, RunResult, stateFits, ranAs, ranOn, ran}
+use Rattle.rules.specs.Machine.{present}
+use Rattle.rules.specs.Running.{RunCall, RunResult, stateFits, ranAs, ranOn, ranBy, ran}
 use Rattle.rules.specs.declared.Cell.{Cell}
 use Rattle.rules.specs.declared.Switches.{Switches}
 use Rattle.rules.specs.declared.Outcome.{Outcome}
@@ -29,7 +30,7 @@ differs : {A : Type 0} (o : Outcome) (b : Bar) → NotRun b ≡ Ran o → A
 differs o b e = let z : _≡_ {A = ℕ} 0 1 = cc in let y : ⊥ = omega arith in absurd y
 
 module _ (c : RunCall) (o : Outcome) (fits : drumFits (length (c .drum)) (c .marks) (view (c .drum) (c .marks)) ≡ true) where
-  entered-on : (k : Deck) → deckOf (c .deck) ≡ k → ranOn c k .ending ≡ Ran o → Entered c
+  entered-on : (k : Deck) → deckOf (c .deck) ≡ k → ranOn present c k .ending ≡ Ran o → Entered c
   unfolding ranOn
   entered-on (Faulty f) q e = differs o (BadDeck f) e
   entered-on (Good first order problem) q e = by-state (stateFits (view (c .drum) (c .marks)) (c .deck) first (c .state) (c .budget)) refl
@@ -39,7 +40,7 @@ module _ (c : RunCall) (o : Outcome) (fits : drumFits (length (c .drum)) (c .mar
       by-state false f = differs o BadState (rw f at e)
 
 pub entered : (c : RunCall) (o : Outcome) → ran c .ending ≡ Ran o → Entered c
-unfolding ran
+unfolding ranBy
 entered c o e = by-fit (drumFits (length (c .drum)) (c .marks) (view (c .drum) (c .marks))) refl
   where
     by-fit : (t : Bool) → drumFits (length (c .drum)) (c .marks) (view (c .drum) (c .marks)) ≡ t → Entered c

@@ -7,7 +7,8 @@ use mathlib.Core.Bool.{Bool, true, false}
 use lib.ListN.{length, getD}
 use Rattle.rules.specs.Drum.{view, store, marksOf, overlay, drumFits}
 use Rattle.rules.specs.Decks.{dataFrom, cardsStored, deckOf}
-use Rattle.rules.specs.Running.{begun, inputs, runFrom, stateFits, ranAs, ranOn, ran}
+use Rattle.rules.specs.Machine.{present}
+use Rattle.rules.specs.Running.{begun, inputs, runFrom, stateFits, ranAs, ranOn, ranBy, ran}
 use Rattle.rules.specs.Loads.{loadedFrom, loaded}
 use Rattle.rules.specs.declared.Cell.{Cell}
 use Rattle.rules.specs.declared.Deck.{Deck}
@@ -54,13 +55,13 @@ module _ (drum marks : List ℕ) where
       by-fit true e = rw e (load-kept-from deck s t (deckOf deck) (fit drum marks e))
       by-fit false e = rw e (nothing-done drum marks _ refl)
 
-  run-kept-from : (deck out : List ℕ) (s : State) (n : ℕ) (t : Switches) (k : Deck) → Fit drum marks → Kept drum marks (afterRun (ranOn (runOf drum marks deck out s n t) k))
+  run-kept-from : (deck out : List ℕ) (s : State) (n : ℕ) (t : Switches) (k : Deck) → Fit drum marks → Kept drum marks (afterRun (ranOn present (runOf drum marks deck out s n t) k))
   unfolding ranOn ranAs
   run-kept-from deck out s n t (Faulty f) h = nothing-done drum marks _ refl
   run-kept-from deck out s n t (Good behind order problem) h = by-state (stateFits (view drum marks) deck behind s n) refl
     where
       by-state : (b : Bool) → stateFits (view drum marks) deck behind s n ≡ b
-          → Kept drum marks (afterRun (ranOn (runOf drum marks deck out s n t) (Good behind order problem)))
+          → Kept drum marks (afterRun (ranOn present (runOf drum marks deck out s n t) (Good behind order problem)))
       by-state true e =
           rw e
           (let c = runOf drum marks deck out s n t in
@@ -68,7 +69,7 @@ module _ (drum marks : List ℕ) where
       by-state false e = rw e (nothing-done drum marks _ refl)
 
   run-kept : (deck out : List ℕ) (s : State) (n : ℕ) (t : Switches) → Kept drum marks (afterRun (ran (runOf drum marks deck out s n t)))
-  unfolding ran
+  unfolding ranBy
   run-kept deck out s n t = by-fit (drumFits (length drum) marks (view drum marks)) refl
     where
       by-fit : (b : Bool) → drumFits (length drum) marks (view drum marks) ≡ b → Kept drum marks (afterRun (ran (runOf drum marks deck out s n t)))

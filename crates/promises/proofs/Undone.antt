@@ -10,8 +10,8 @@ use lib.ListN.{length}
 use Rattle.rules.specs.Numbers.{triesAgain}
 use Rattle.rules.specs.Drum.{view, cellAt, drumFits}
 use Rattle.rules.specs.Decks.{deckOf}
-use Rattle.rules.specs.Machine.{Machine}
-use Rattle.rules.specs.Running.{asDone, traceSent, step, Left, RunCall, notRun, ranAs, stateFits, ranOn, ran}
+use Rattle.rules.specs.Machine.{Machine, present}
+use Rattle.rules.specs.Running.{asDone, traceSent, step, Left, RunCall, notRun, ranAs, stateFits, ranOn, ranBy, ran}
 use Rattle.rules.specs.Loads.{LoadCall, notLoaded, loadedFrom, loaded}
 use Rattle.rules.specs.declared.Cell.the-variants.{Owned}
 use Rattle.rules.specs.declared.Outcome.{Outcome}
@@ -99,18 +99,18 @@ run-differs : {A : Type 0} (o : Outcome) (b : Bar) → Ran o ≡ NotRun b → A
 run-differs o b e = let z : _≡_ {A = ℕ} 0 1 = cc in let y : ⊥ = omega arith in absurd y
 
 module _ (c : RunCall) (b : Bar) where
-  run-barred : (k : Deck) → ranOn c k .ending ≡ NotRun b → ranOn c k ≡ notRun c b
+  run-barred : (k : Deck) → ranOn present c k .ending ≡ NotRun b → ranOn present c k ≡ notRun c b
   unfolding ranOn ranAs
   run-barred (Faulty f) e = ap (notRun c) (same-run-bar (BadDeck f) b e)
   run-barred (Good behind order problem) e = by-state (stateFits (view (c .drum) (c .marks)) (c .deck) behind (c .state) (c .budget)) refl
     where
       by-state : (t : Bool) → stateFits (view (c .drum) (c .marks)) (c .deck) behind (c .state) (c .budget) ≡ t
-          → ranOn c (Good behind order problem) ≡ notRun c b
+          → ranOn present c (Good behind order problem) ≡ notRun c b
       by-state true f = run-differs _ b (rw f at e)
       by-state false f = rw f (ap (notRun c) (same-run-bar BadState b (rw f at e)))
 
 pub refused-run-changes-nothing : RefusedRunChangesNothing
-unfolding ran
+unfolding ranBy
 refused-run-changes-nothing c b e = by-fit (drumFits (length (c .drum)) (c .marks) (view (c .drum) (c .marks))) refl
   where
     by-fit : (t : Bool) → drumFits (length (c .drum)) (c .marks) (view (c .drum) (c .marks)) ≡ t → ran c ≡ notRun c b

@@ -9,7 +9,8 @@ use native.Mathlib.Omega.{arith}
 use lib.ListN.{length, getD}
 use Rattle.rules.specs.Drum.{cellOf, view, markOf, marksOf, numberOver, overlay, drumFits}
 use Rattle.rules.specs.Decks.{deckOf}
-use Rattle.rules.specs.Running.{begun, inputs, runFrom, stateFits, ranAs, ranOn, ran}
+use Rattle.rules.specs.Machine.{present}
+use Rattle.rules.specs.Running.{begun, inputs, runFrom, stateFits, ranAs, ranOn, ranBy, ran}
 use Rattle.rules.specs.Loads.{cellsLoaded, loadedFrom, loaded}
 use Rattle.rules.specs.Making.{MakeResult, madeOf, made}
 use Rattle.rules.specs.declared.Cell.{Cell}
@@ -92,13 +93,13 @@ module _ (drum₁ drum₂ marks : List ℕ) (h : Alike drum₁ drum₂ marks) wh
       by-fit false e = rw (fits-same, e) (unchanged _ refl)
 
   run-from : (deck out : List ℕ) (s : State) (n : ℕ) (t : Switches) (k : Deck)
-      → Matched (afterRun (ranOn (runOf drum₁ marks deck out s n t) k)) (afterRun (ranOn (runOf drum₂ marks deck out s n t) k))
+      → Matched (afterRun (ranOn present (runOf drum₁ marks deck out s n t) k)) (afterRun (ranOn present (runOf drum₂ marks deck out s n t) k))
   unfolding ranOn ranAs
   run-from deck out s n t (Faulty f) = unchanged _ refl
   run-from deck out s n t (Good behind order problem) = by-state (stateFits (view drum₂ marks) deck behind s n) refl
     where
       by-state : (b : Bool) → stateFits (view drum₂ marks) deck behind s n ≡ b
-          → Matched (afterRun (ranOn (runOf drum₁ marks deck out s n t) (Good behind order problem))) (afterRun (ranOn (runOf drum₂ marks deck out s n t) (Good behind order problem)))
+          → Matched (afterRun (ranOn present (runOf drum₁ marks deck out s n t) (Good behind order problem))) (afterRun (ranOn present (runOf drum₂ marks deck out s n t) (Good behind order problem)))
       by-state true e =
           rw (one-view, e)
           (let c = runOf drum₂ marks deck out s n t in
@@ -107,7 +108,7 @@ module _ (drum₁ drum₂ marks : List ℕ) (h : Alike drum₁ drum₂ marks) wh
 
   run-both : (deck out : List ℕ) (s : State) (n : ℕ) (t : Switches)
       → Matched (afterRun (ran (runOf drum₁ marks deck out s n t))) (afterRun (ran (runOf drum₂ marks deck out s n t)))
-  unfolding ran
+  unfolding ranBy
   run-both deck out s n t = by-fit (drumFits (length drum₂) marks (view drum₂ marks)) refl
     where
       by-fit : (b : Bool) → drumFits (length drum₂) marks (view drum₂ marks) ≡ b

@@ -12,3 +12,5 @@ pub mod Again
 pub mod Rooms
 pub mod Making
 pub mod Prepared
+pub mod LossStops
+pub mod LostDigits

@@ -6,7 +6,7 @@ use mathlib.Core.List.{List, [], _∷_, map}
 use mathlib.Core.Bool.{false}
 use Rattle.rules.specs.Numbers.{outcomeNumber}
 use Rattle.rules.specs.Drum.{cellAt}
-use Rattle.rules.specs.Machine.{Machine, Answer}
+use Rattle.rules.specs.Machine.{Machine, Answer, present}
 use Rattle.rules.specs.Running.{step}
 use Rattle.rules.specs.declared.Cell.{Cell}
 use Rattle.rules.specs.declared.Cell.the-variants.{Foreign, Owned}
@@ -52,7 +52,7 @@ seenIn x =
     }
 
 abbrev pub made : Row → Seen
-made r = seenIn (step (record { deck = []; room = 0; switches = record { stop = false } }) (machineOf r))
+made r = seenIn (step (record { deck = []; room = 0; switches = record { stop = false }; requests = present }) (machineOf r))
 
 -- the result is in 000 and in 004, and the next order is in 002
 abbrev pub gives : ℕ → Seen

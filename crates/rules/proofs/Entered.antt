@@ -8,7 +8,8 @@ use Rattle.rules.specs.Words.{pick}
 use Rattle.rules.specs.Numbers.{outcomeShown}
 use Rattle.rules.specs.Drum.{view, drumFits}
 use Rattle.rules.specs.Decks.{deckOf}
-use Rattle.rules.specs.Running.{Course, runFrom, RunCall, RunResult, notRun, begun, inputs, stateFits, ranAs, ranOn, ran}
+use Rattle.rules.specs.Machine.{present}
+use Rattle.rules.specs.Running.{Course, runFrom, RunCall, RunResult, notRun, begun, inputs, stateFits, ranAs, ranOn, ranBy, ran}
 use Rattle.rules.specs.declared.Deck.{Deck}
 use Rattle.rules.specs.declared.Deck.the-variants.{Good, Faulty}
 use Rattle.rules.specs.declared.Bar.{Bar}
@@ -43,23 +44,23 @@ module _ (P : RunResult → Type 0) (c : RunCall) (not : (b : Bar) → P (notRun
       did (record { drum-fits = d; first = first; order = order; problem = problem; deck-good = g; state-fits = e })
   by-state first order problem d g false e = not BadState
 
-  by-deck : drumFits (length (c .drum)) (c .marks) (view (c .drum) (c .marks)) ≡ true → (d : Deck) → deckOf (c .deck) ≡ d → P (ranOn c d)
+  by-deck : drumFits (length (c .drum)) (c .marks) (view (c .drum) (c .marks)) ≡ true → (d : Deck) → deckOf (c .deck) ≡ d → P (ranOn present c d)
   unfolding ranOn
   by-deck f (Faulty x) g = not (BadDeck x)
   by-deck f (Good first order problem) g =
       by-state first order problem f g (stateFits (view (c .drum) (c .marks)) (c .deck) first (c .state) (c .budget)) refl
 
   by-drum : (t : Bool) → drumFits (length (c .drum)) (c .marks) (view (c .drum) (c .marks)) ≡ t
-      → P (pick t (ranOn c (deckOf (c .deck))) (notRun c BadDrum))
+      → P (pick t (ranOn present c (deckOf (c .deck))) (notRun c BadDrum))
   by-drum true e = by-deck e (deckOf (c .deck)) refl
   by-drum false e = not BadDrum
 
   pub of-run : P (ran c)
-  unfolding ran
+  unfolding ranBy
   of-run = by-drum (drumFits (length (c .drum)) (c .marks) (view (c .drum) (c .marks))) refl
 
 pub ran-course : (c : RunCall) → Entered c → ran c ≡ ranAs c (course c)
-unfolding ran ranOn
+unfolding ranBy ranOn
 ran-course c h = rw (h .drum-fits, h .deck-good, h .state-fits)
 
 -- ---- the machine that it begins with, and the one that it leaves

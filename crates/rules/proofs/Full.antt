@@ -14,7 +14,7 @@ use Rattle.rules.specs.Drum.{cellAt, wordAt}
 use Rattle.rules.specs.Decks.{dataFrom, judgedFrom}
 use Rattle.rules.specs.Codes.{codes, lookup, checked}
 use Rattle.rules.specs.Machine.{Machine, Inputs, Answer, counting, clearBox, withState, goingTo, isTraced, isTracing, onward, done, undone}
-use Rattle.rules.specs.Orders.{reckonedBy, reckoned, condStopped, gone, largest, raised, looped, cardsPunched, punchSize, punched, read, retraced, performed}
+use Rattle.rules.specs.Orders.{reckonedBy, stopsByLoss, reckoned, condStopped, gone, largest, raised, looped, cardsPunched, punchSize, punched, read, retraced, performed}
 use Rattle.rules.specs.Running.{allowed, obeyedAs, codeDone, obeyed, asDone, orderFits, traceWords, traceSent, traceSize, traced, fetched, step}
 use Rattle.rules.specs.declared.Cell.{Cell}
 use Rattle.rules.specs.declared.Cell.the-variants.{Foreign, Owned}
@@ -62,9 +62,10 @@ module _ (i : Inputs) where
   quiet : (m : Machine) (p : Bool) (x : Answer) → OfOutcome (x .outcome) → x .machine .sent ≡ m .sent → Writes i m p x
   quiet m p x h e = record { full = never-full (x .outcome) h; more = omega (arith, ap length e) }
 
-  reckoned-writes : (m : Machine) (c : ℕ) (r : Reckoned) → OfReckoned r → Writes i m false (reckoned m c r)
-  reckoned-writes m c (Result w) h = quiet m false _ tt refl
-  reckoned-writes m c (Refused r) h = quiet m false _ h refl
+  reckoned-writes : (t : Bool) (m : Machine) (c : ℕ) (r : Reckoned) → OfReckoned r → Writes i m false (reckoned t m c r)
+  reckoned-writes true m c (Result w) h = quiet m false _ tt refl
+  reckoned-writes false m c (Result w) h = quiet m false _ tt refl
+  reckoned-writes t m c (Refused r) h = quiet m false _ h refl
 
   cond-writes : (t : Bool) (m : Machine) (b c : ℕ) → Writes i m false (condStopped t m b c)
   cond-writes true m b c = quiet m false _ tt refl
@@ -114,7 +115,8 @@ module _ (i : Inputs) where
   performed-writes : (m : Machine) (o : Operation) (a b c : ℕ) → (isPch o ≡ true → 1 ≤ b) → c ≤ 999 → Writes i m (isPch o) (performed i m o a b c)
   unfolding performed
   performed-writes m (Reckon r) a b c f l =
-      reckoned-writes m c (reckonedBy r (wordAt (m .cells) a) (wordAt (m .cells) b)) (reckoned-other r (wordAt (m .cells) a) (wordAt (m .cells) b))
+      reckoned-writes (stopsByLoss i r (wordAt (m .cells) a) (wordAt (m .cells) b)) m c (reckonedBy r (wordAt (m .cells) a) (wordAt (m .cells) b))
+      (reckoned-other r (wordAt (m .cells) a) (wordAt (m .cells) b))
   performed-writes m Move a b c f l = quiet m false _ tt refl
   performed-writes m (Go g) a b c f l = gone-writes m g b c
   performed-writes m (Loop x y z) a b c f l = looped-writes m x y z b c

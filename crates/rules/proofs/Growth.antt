@@ -12,7 +12,7 @@ use Rattle.rules.specs.Cards.{wordIn, wordPlace}
 use Rattle.rules.specs.Decks.{DataCard, dataFrom, wordsStored, cardsStored, judgedFrom}
 use Rattle.rules.specs.Codes.{codes, lookup, checked}
 use Rattle.rules.specs.Machine.{Machine, Inputs, Answer, counting, clearBox, isTraced, isTracing, withState, goingTo, onward, done, undone}
-use Rattle.rules.specs.Orders.{reckonedBy, reckoned, condStopped, gone, largest, raised, five, cardPunched, cardsPunched, punchSize, punched, read, erased, retraced, performed}
+use Rattle.rules.specs.Orders.{reckonedBy, stopsByLoss, reckoned, condStopped, gone, largest, raised, five, cardPunched, cardsPunched, punchSize, punched, read, erased, retraced, performed}
 use Rattle.rules.specs.Running.{allowed, obeyedAs, codeDone, obeyed, asDone, orderFits, traceSent, traceSize, traced, fetched, step, runFrom}
 use Rattle.rules.specs.declared.Cell.{Cell}
 use Rattle.rules.specs.declared.Cell.the-variants.{Foreign, Owned}
@@ -51,9 +51,10 @@ answer-grows v false x y p q = q
 result-grows : (v : List Cell) (c w : ℕ) → Grows v (store (store v c w) 0 w)
 result-grows v c w k e = store-grows v c w k (store-grows (store v c w) 0 w k e)
 
-reckoned-grows : (m : Machine) (c : ℕ) (r : Reckoned) → Grows (m .cells) (reckoned m c r .machine .cells)
-reckoned-grows m c (Result w) = result-grows (m .cells) c w
-reckoned-grows m c (Refused r) = same (m .cells)
+reckoned-grows : (t : Bool) (m : Machine) (c : ℕ) (r : Reckoned) → Grows (m .cells) (reckoned t m c r .machine .cells)
+reckoned-grows true m c (Result w) = result-grows (m .cells) c w
+reckoned-grows false m c (Result w) = result-grows (m .cells) c w
+reckoned-grows t m c (Refused r) = same (m .cells)
 
 words-grow : (d : List ℕ) (l n : ℕ) (v : List Cell) → Grows v (wordsStored d l n v)
 unfolding wordsStored
@@ -116,7 +117,8 @@ gone-grows i m Noop b c = same (m .cells)
 
 performed-grows : (i : Inputs) (m : Machine) (o : Operation) (a b c : ℕ) → Grows (m .cells) (performed i m o a b c .machine .cells)
 unfolding performed
-performed-grows i m (Reckon r) a b c = reckoned-grows m c (reckonedBy r (wordAt (m .cells) a) (wordAt (m .cells) b))
+performed-grows i m (Reckon r) a b c =
+    reckoned-grows (stopsByLoss i r (wordAt (m .cells) a) (wordAt (m .cells) b)) m c (reckonedBy r (wordAt (m .cells) a) (wordAt (m .cells) b))
 performed-grows i m Move a b c = result-grows (m .cells) c (wordAt (m .cells) b)
 performed-grows i m (Go g) a b c = gone-grows i m g b c
 performed-grows i m (Loop x y z) a b c =

@@ -11,7 +11,7 @@ use Rattle.rules.specs.Drum.{cellAt, wordAt}
 use Rattle.rules.specs.Decks.{judgedFrom}
 use Rattle.rules.specs.Codes.{codes, lookup, checked}
 use Rattle.rules.specs.Machine.{Machine, Inputs, Answer, counting, clearBox, isTraced, isTracing, withState, goingTo, onward, done, undone}
-use Rattle.rules.specs.Orders.{reckonedBy, reckoned, condStopped, gone, largest, raised, five, cardPunched, cardsPunched, punchSize, punched, read, retraced, performed}
+use Rattle.rules.specs.Orders.{reckonedBy, stopsByLoss, reckoned, condStopped, gone, largest, raised, five, cardPunched, cardsPunched, punchSize, punched, read, retraced, performed}
 use Rattle.rules.specs.Running.{allowed, obeyedAs, codeDone, obeyed, asDone, orderFits, traceSent, traceSize, traced, fetched, step}
 use Rattle.rules.specs.declared.Cell.{Cell}
 use Rattle.rules.specs.declared.Cell.the-variants.{Foreign, Owned}
@@ -34,7 +34,7 @@ use Rattle.rules.specs.declared.Tracing.the-variants.{StartTr, StopTr, S
 
 -- the same but for the room; the same with p sent before
 abbrev pub inRoom : ℕ → Inputs → Inputs
-inRoom r i = record { deck = i .deck; room = r; switches = i .switches }
+inRoom r i = record { deck = i .deck; room = r; switches = i .switches; requests = i .requests }
 
 abbrev pub sentBefore : List ℕ → Machine → Machine
 sentBefore p m = record { cells = m .cells; sent = p ++ m .sent; state = m .state }
@@ -86,9 +86,10 @@ module _ (p : List ℕ) (r : ℕ) (i : Inputs) where
   room-alike true false m x x′ a = second-full refl
   room-alike false t′ m x x′ a = first-full refl
 
-  reckoned-alike : (m : Machine) (c : ℕ) (x : Reckoned) → Alike p (reckoned m c x) (reckoned (sentBefore p m) c x)
-  reckoned-alike m c (Result w) = alike refl
-  reckoned-alike m c (Refused f) = alike refl
+  reckoned-alike : (t : Bool) (m : Machine) (c : ℕ) (x : Reckoned) → Alike p (reckoned t m c x) (reckoned t (sentBefore p m) c x)
+  reckoned-alike true m c (Result w) = alike refl
+  reckoned-alike false m c (Result w) = alike refl
+  reckoned-alike t m c (Refused f) = alike refl
 
   cond-alike : (t : Bool) (m : Machine) (b c : ℕ) → Alike p (condStopped t m b c) (condStopped t (sentBefore p m) b c)
   cond-alike true m b c = alike refl
@@ -122,7 +123,8 @@ module _ (p : List ℕ) (r : ℕ) (i : Inputs) where
 
   performed-alike : (m : Machine) (o : Operation) (a b c : ℕ) → Alike p (performed i m o a b c) (performed other (sentBefore p m) o a b c)
   unfolding performed punched
-  performed-alike m (Reckon k) a b c = reckoned-alike m c (reckonedBy k (wordAt (m .cells) a) (wordAt (m .cells) b))
+  performed-alike m (Reckon k) a b c =
+      reckoned-alike (stopsByLoss i k (wordAt (m .cells) a) (wordAt (m .cells) b)) m c (reckonedBy k (wordAt (m .cells) a) (wordAt (m .cells) b))
   performed-alike m Move a b c = alike refl
   performed-alike m (Go g) a b c = gone-alike m g b c
   performed-alike m (Loop x y z) a b c = round-alike m x y z c (ltb (largest (m .state) x y z) b)

@@ -12,7 +12,7 @@ use Rattle.rules.specs.Drum.{cellAt, wordAt}
 use Rattle.rules.specs.Decks.{judgedFrom}
 use Rattle.rules.specs.Codes.{codes, lookup, checked}
 use Rattle.rules.specs.Machine.{Machine, Inputs, Answer, isTraced, isTracing, onward, done, undone}
-use Rattle.rules.specs.Orders.{reckonedBy, reckoned, condStopped, gone, cardsPunched, punchSize, punched, read, performed}
+use Rattle.rules.specs.Orders.{reckonedBy, stopsByLoss, reckoned, condStopped, gone, cardsPunched, punchSize, punched, read, performed}
 use Rattle.rules.specs.Running.{allowed, obeyedAs, codeDone, obeyed, asDone, orderFits, traceSent, traceSize, traced, fetched, step, runFrom}
 use Rattle.rules.specs.declared.Cell.{Cell}
 use Rattle.rules.specs.declared.Cell.the-variants.{Foreign, Owned}
@@ -29,6 +29,7 @@ use Rattle.rules.specs.declared.Operation.{Operation}
 use Rattle.rules.specs.declared.Operation.the-variants.{Reckon, Move, Go, Loop, Change, Read, Pch, Trace}
 use Rattle.rules.specs.declared.Going.{Going}
 use Rattle.rules.specs.declared.Going.the-variants.{UncStop, CondStop, TrSgn, TrExp, Tr, TrSubr, Noop}
+use Rattle.rules.proofs.Results.{Fits as IsWord, reckoned-fits}
 use Rattle.rules.proofs.Tails.{Tail}
 use Rattle.rules.proofs.SoundChanges.{Sound}
 use Rattle.rules.proofs.SoundOrders.{step-sound}
@@ -44,9 +45,10 @@ either-shows true x y p q = p
 either-shows false x y p q = q
 
 module _ (i : Inputs) where
-  reckoning-shows : (m : Machine) (c : ℕ) (r : Reckoned) → ShowsWord (reckoned m c r)
-  reckoning-shows m c (Result w) = omega arith
-  reckoning-shows m c (Refused r) = omega arith
+  reckoning-shows : (t : Bool) (m : Machine) (c : ℕ) (r : Reckoned) → IsWord r → ShowsWord (reckoned t m c r)
+  reckoning-shows true m c (Result w) f = f
+  reckoning-shows false m c (Result w) f = omega arith
+  reckoning-shows t m c (Refused r) f = omega arith
 
   stop-shows : (m : Machine) (t : Bool) (b c : ℕ) → Words m → ShowsWord (condStopped t m b c)
   stop-shows m true b c h = h b
@@ -68,7 +70,9 @@ module _ (i : Inputs) where
 
   performed-shows : (m : Machine) (o : Operation) (a b c : ℕ) → Words m → ShowsWord (performed i m o a b c)
   unfolding performed punched
-  performed-shows m (Reckon r) a b c h = reckoning-shows m c (reckonedBy r (wordAt (m .cells) a) (wordAt (m .cells) b))
+  performed-shows m (Reckon r) a b c h =
+      reckoning-shows (stopsByLoss i r (wordAt (m .cells) a) (wordAt (m .cells) b)) m c (reckonedBy r (wordAt (m .cells) a) (wordAt (m .cells) b))
+      (reckoned-fits r (wordAt (m .cells) a) (wordAt (m .cells) b))
   performed-shows m Move a b c h = omega arith
   performed-shows m (Go g) a b c h = going-shows m g b c h
   performed-shows m (Loop x y z) a b c h = omega arith

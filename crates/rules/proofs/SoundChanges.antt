@@ -185,9 +185,11 @@ module _ {deck : List ℕ} {behind : ℕ} where
 
   -- ---- orders
 
-  pub reckons : (m : Machine) (c : ℕ) (r : Reckoned) → IsWord r → m .state .location ≤ 999 → Sound deck behind m → Sound deck behind (reckoned m c r .machine)
-  reckons m c (Result w) f l h = goes-on l (stores 0 w f (stores c w f h))
-  reckons m c (Refused r) f l h = h
+  pub reckons : (t : Bool) (m : Machine) (c : ℕ) (r : Reckoned) → IsWord r → m .state .location ≤ 999 → Sound deck behind m
+      → Sound deck behind (reckoned t m c r .machine)
+  reckons true m c (Result w) f l h = goes-on l (stores 0 w f (stores c w f h))
+  reckons false m c (Result w) f l h = goes-on l (stores 0 w f (stores c w f h))
+  reckons t m c (Refused r) f l h = h
 
   stops-if : (t : Bool) (m : Machine) (b c : ℕ) → c ≤ 999 → Sound deck behind m → Sound deck behind (condStopped t m b c .machine)
   stops-if true m b c k h = goes c (omega arith) h

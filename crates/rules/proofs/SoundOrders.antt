@@ -12,7 +12,7 @@ use Rattle.rules.specs.Drum.{cellAt, wordAt}
 use Rattle.rules.specs.Decks.{dataFrom, cardsStored, judgedFrom}
 use Rattle.rules.specs.Codes.{codes, lookup, checked}
 use Rattle.rules.specs.Machine.{Machine, Inputs, Answer, isTraced, isTracing, onward, done, undone}
-use Rattle.rules.specs.Orders.{reckonedBy, largest, cardsPunched, punchSize, punched, read, performed}
+use Rattle.rules.specs.Orders.{reckonedBy, stopsByLoss, largest, cardsPunched, punchSize, punched, read, performed}
 use Rattle.rules.specs.Running.{allowed, obeyedAs, codeDone, obeyed, asDone, orderFits, traceSent, traceSize, traced, fetched, step, runFrom}
 use Rattle.rules.specs.declared.Cell.{Cell}
 use Rattle.rules.specs.declared.Cell.the-variants.{Foreign, Owned}
@@ -47,7 +47,8 @@ module _ (i : Inputs) (behind : ℕ) (tail : Tail (i .deck) behind) where
   performs : (m : Machine) (o : Operation) (a b c : ℕ) → b ≤ 999 → c ≤ 999 → m .state .location ≤ 999 → Keeps m (performed i m o a b c)
   unfolding performed punched
   performs m (Reckon r) a b c j k l h =
-      reckons m c (reckonedBy r (wordAt (m .cells) a) (wordAt (m .cells) b)) (reckoned-fits r (wordAt (m .cells) a) (wordAt (m .cells) b)) l h
+      reckons (stopsByLoss i r (wordAt (m .cells) a) (wordAt (m .cells) b)) m c (reckonedBy r (wordAt (m .cells) a) (wordAt (m .cells) b))
+      (reckoned-fits r (wordAt (m .cells) a) (wordAt (m .cells) b)) l h
   performs m Move a b c j k l h =
       let w : ℕ = wordAt (m .cells) b in
       goes-on l (stores 0 w (h .cells .words b) (stores c w (h .cells .words b) h))

@@ -12,7 +12,7 @@ use Rattle.rules.specs.Drum.{cellAt, wordAt}
 use Rattle.rules.specs.Decks.{judgedFrom}
 use Rattle.rules.specs.Codes.{codes, lookup, codeIn, checked, pchCode}
 use Rattle.rules.specs.Machine.{Machine, Inputs, Answer, isTraced, isTracing, onward, done, undone}
-use Rattle.rules.specs.Orders.{reckonedBy, reckoned, condStopped, gone, punchSize, cardsPunched, punched, read, performed}
+use Rattle.rules.specs.Orders.{reckonedBy, stopsByLoss, reckoned, condStopped, gone, punchSize, cardsPunched, punched, read, performed}
 use Rattle.rules.specs.Running.{allowed, obeyedAs, codeDone, obeyed, asDone, orderFits, traceSent, traceSize, traced, fetched, step, Left}
 use Rattle.rules.specs.declared.Cell.{Cell}
 use Rattle.rules.specs.declared.Cell.the-variants.{Foreign, Owned}
@@ -39,9 +39,10 @@ pick-stays : (m : Machine) (t : Bool) (x y : Answer) → Stays m x → Stays m y
 pick-stays m true x y p q = p
 pick-stays m false x y p q = q
 
-reckoned-stays : (m : Machine) (c : ℕ) (r : Reckoned) → Stays m (reckoned m c r)
-reckoned-stays m c (Result w) = false-true
-reckoned-stays m c (Refused r) = λ e. refl
+reckoned-stays : (t : Bool) (m : Machine) (c : ℕ) (r : Reckoned) → Stays m (reckoned t m c r)
+reckoned-stays true m c (Result w) = false-true
+reckoned-stays false m c (Result w) = false-true
+reckoned-stays t m c (Refused r) = λ e. refl
 
 cond-stays : (t : Bool) (m : Machine) (b c : ℕ) → Stays m (condStopped t m b c)
 cond-stays true m b c = false-true
@@ -68,7 +69,8 @@ gone-stays i m Noop b c = false-true
 
 pub performed-stays : (i : Inputs) (m : Machine) (o : Operation) (a b c : ℕ) → Stays m (performed i m o a b c)
 unfolding performed
-performed-stays i m (Reckon r) a b c = reckoned-stays m c (reckonedBy r (wordAt (m .cells) a) (wordAt (m .cells) b))
+performed-stays i m (Reckon r) a b c =
+    reckoned-stays (stopsByLoss i r (wordAt (m .cells) a) (wordAt (m .cells) b)) m c (reckonedBy r (wordAt (m .cells) a) (wordAt (m .cells) b))
 performed-stays i m Move a b c = false-true
 performed-stays i m (Go g) a b c = gone-stays i m g b c
 performed-stays i m (Loop x y z) a b c = false-true

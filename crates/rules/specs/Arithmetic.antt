@@ -1,11 +1,14 @@
 -- Arithmetic on words: codes 1 to 5, 0 300 and 0 350. An operand that is no number is refused before anything else; the exact result
--- is rounded once, and only then is its exponent judged. Assumes nothing.
-use Prim.Native.Nat.{ℕ, _+_, _*_}
+-- is rounded once, and only then is its exponent judged. Of a sum and a difference it is also told how many digits went.
+-- Assumes nothing.
+use Prim.Native.Nat.{ℕ, _+_, _-_, _*_, max}
+use mathlib.Core.Bool.{Bool}
 use lib.Dec.{eqb}
-use Rattle.rules.specs.Words.{pick, both, signIn, digitsIn, leadingIn, exponentIn, isNumber}
+use Rattle.rules.specs.Words.{pick, both, either, signIn, digitsIn, leadingIn, exponentIn, isNumber}
 use Rattle.rules.specs.Rounding.{Value, Settled, nought, value, outside, single, turned, signs, sumOf, differenceOf, productOf, quotientOf, rootOf}
 use Rattle.rules.specs.declared.Reckoned.{Reckoned}
 use Rattle.rules.specs.declared.Reckoned.the-variants.{Result, Refused}
+use Rattle.rules.specs.declared.Sum.{Sum}
 use Rattle.rules.specs.declared.Refusal.the-variants.{NotNumber, ZeroDivisor, NegativeRoot, OutOfRange}
 
 -- a word taken apart, and a result put together; zero is always +0
@@ -50,3 +53,22 @@ sqrtOf b = ofNumber b (pick (eqb (signIn b) 1) (Refused NegativeRoot) (wordOf (r
 
 unfoldable pub absOf : ℕ → Reckoned
 absOf b = ofNumber b (Result (digitsIn b))
+
+-- ---- the digits that a sum or a difference loses
+
+abbrev pub isZero : Value → Bool
+isZero x = eqb (x .leading) 0
+
+-- The loss, by the two operands and the result z: the larger exponent of the operands less the result's, and 0 where that is below zero.
+-- Where the result or an operand is zero, it is 0 too.
+abbrev pub lossOf : Value → Value → Value → ℕ
+lossOf x y z = pick (either (isZero z) (either (isZero x) (isZero y))) 0 (max (x .exponent) (y .exponent) - z .exponent)
+
+-- of the words a and b, by what was answered; with a refusal it is 0
+abbrev pub lossIn : ℕ → ℕ → Reckoned → ℕ
+lossIn a b (Result w) = lossOf (valueIn a) (valueIn b) (valueIn w)
+lossIn a b (Refused r) = 0
+
+-- what is told of it
+abbrev pub summed : ℕ → ℕ → Reckoned → Sum
+summed a b r = record { answer = r; lost = lossIn a b r }

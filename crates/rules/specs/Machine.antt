@@ -2,7 +2,7 @@
 -- it. Assumes nothing.
 use Prim.Native.Nat.{ℕ, _+_, _%_}
 use mathlib.Core.List.{List, [], _∷_, _++_}
-use mathlib.Core.Bool.{Bool}
+use mathlib.Core.Bool.{Bool, true, false}
 use lib.Dec.{eqb}
 use lib.ListN.{getD}
 use Rattle.rules.specs.Drum.{store}
@@ -18,11 +18,23 @@ pub record Machine : Type 0 where
   pub sent : List ℕ
   pub state : State
 
--- what a run is lent beside the machine: the deck, the room for cards, and the console's switches
+-- Which requests after the base a run goes by: whether a sum that has lost its digits may stop it. A run goes by all of them; the base is
+-- there so that the two can be held against each other.
+pub record Requests : Type 0 where
+  pub lossStops : Bool
+
+abbrev pub present : Requests
+present = record { lossStops = true }
+
+abbrev pub base : Requests
+base = record { lossStops = false }
+
+-- what a run is lent beside the machine: the deck, the room for cards, and the console's switches; and the requests that it goes by
 pub record Inputs : Type 0 where
   pub deck : List ℕ
   pub room : ℕ
   pub switches : Switches
+  pub requests : Requests
 
 pub record Answer : Type 0 where
   pub outcome : Outcome

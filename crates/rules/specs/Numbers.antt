@@ -8,7 +8,7 @@ use Rattle.rules.specs.declared.Reckoned.{Reckoned}
 use Rattle.rules.specs.declared.Reckoned.the-variants.{Result, Refused}
 use Rattle.rules.specs.declared.Outcome.{Outcome}
 use Rattle.rules.specs.declared.Stop.{Stop}
-use Rattle.rules.specs.declared.Stop.the-variants.{Unconditional, Conditional}
+use Rattle.rules.specs.declared.Stop.the-variants.{Unconditional, Conditional, Lost}
 use Rattle.rules.specs.declared.Outcome.the-variants.{GoesOn, Stops, Undone}
 use Rattle.rules.specs.declared.Fault.{Fault}
 use Rattle.rules.specs.declared.Card.{Card}
@@ -52,6 +52,7 @@ reckonedWord (Refused r) = 0
 abbrev pub stopNumber : Stop → ℕ
 stopNumber Unconditional = 0
 stopNumber Conditional = 1
+stopNumber Lost = 3
 
 -- An order's outcome. A run that may go on, and has no order left to do, has used its budget.
 abbrev pub outcomeNumber : Outcome → ℕ
@@ -81,6 +82,7 @@ mayGoOn (Undone r) = false
 abbrev pub stays : Stop → Bool
 stays Unconditional = true
 stays Conditional = false
+stays Lost = false
 
 abbrev pub triesAgain : Outcome → Bool
 triesAgain (Stops k w) = stays k

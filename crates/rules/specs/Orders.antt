@@ -6,7 +6,7 @@ use mathlib.Core.Bool.{Bool, true, false}
 use lib.Dec.{eqb, leb, ltb}
 use lib.ListN.{length}
 use Rattle.rules.specs.Words.{pick, both, signIn, digitsIn, exponentIn, addressIn, withAddress}
-use Rattle.rules.specs.Arithmetic.{addOf, subOf, mpyOf, divOf, ngmpyOf, sqrtOf, absOf}
+use Rattle.rules.specs.Arithmetic.{addOf, subOf, mpyOf, divOf, ngmpyOf, sqrtOf, absOf, lossIn}
 use Rattle.rules.specs.Drum.{wordAt}
 use Rattle.rules.specs.Cards.{dataCard}
 use Rattle.rules.specs.Decks.{dataFrom, cardsStored, judgedFrom}
@@ -18,7 +18,7 @@ use Rattle.rules.specs.declared.Reckoned.the-variants.{Result, Refused}
 use Rattle.rules.specs.declared.Refusal.the-variants.{NoRoom}
 use Rattle.rules.specs.declared.Judged.{Judged}
 use Rattle.rules.specs.declared.Judged.the-variants.{Fits, Fails}
-use Rattle.rules.specs.declared.Stop.the-variants.{Unconditional, Conditional}
+use Rattle.rules.specs.declared.Stop.the-variants.{Unconditional, Conditional, Lost}
 use Rattle.rules.specs.declared.Outcome.the-variants.{Stops}
 use Rattle.rules.specs.declared.Operation.{Operation}
 use Rattle.rules.specs.declared.Operation.the-variants.{Reckon, Move, Go, Loop, Change, Read, Pch, Trace}
@@ -48,9 +48,34 @@ reckonedBy Ngmpy x y = ngmpyOf x y
 reckonedBy Sqrt x y = sqrtOf y
 reckonedBy Abs x y = absOf y
 
-abbrev pub reckoned : Machine → ℕ → Reckoned → Answer
-reckoned m c (Result w) = done (onward (resultAt m c w))
-reckoned m c (Refused r) = undone r m
+-- the digits that went, by the answer r: only ADD and SUB tell of them
+abbrev pub lossBy : Reckoning → ℕ → ℕ → Reckoned → ℕ
+lossBy Add x y r = lossIn x y r
+lossBy Sub x y r = lossIn x y r
+lossBy Mpy x y r = 0
+lossBy Div x y r = 0
+lossBy Ngmpy x y r = 0
+lossBy Sqrt x y r = 0
+lossBy Abs x y r = 0
+
+-- a loss above two stops the run where the switch is on STOP
+abbrev pub stopsAt : Inputs → ℕ → Bool
+stopsAt i n = both (i .requests .lossStops) (both (i .switches .stop) (ltb 2 n))
+
+abbrev pub stopsByLoss : Inputs → Reckoning → ℕ → ℕ → Bool
+stopsByLoss i k x y = stopsAt i (lossBy k x y (reckonedBy k x y))
+
+-- the result w is stored and the next order follows; either the run stops there and shows it, or it goes on
+abbrev pub resulted : Bool → ℕ → Machine → Answer
+resulted true w m = stops (Stops Lost w) m
+resulted false w m = done m
+
+abbrev pub reckoned : Bool → Machine → ℕ → Reckoned → Answer
+reckoned t m c (Result w) = resulted t w (onward (resultAt m c w))
+reckoned t m c (Refused r) = undone r m
+
+abbrev pub reckonedAt : Inputs → Machine → Reckoning → ℕ → ℕ → ℕ → Answer
+reckonedAt i m k x y c = reckoned (stopsByLoss i k x y) m c (reckonedBy k x y)
 
 -- ---- stops and transfers
 
@@ -182,7 +207,7 @@ retraced m StTrEras = onward (withState (stored m (m .state .location) erased) (
 -- ---- all of them
 
 unfoldable pub performed : Inputs → Machine → Operation → ℕ → ℕ → ℕ → Answer
-performed i m (Reckon r) a b c = reckoned m c (reckonedBy r (wordAt (m .cells) a) (wordAt (m .cells) b))
+performed i m (Reckon k) a b c = reckonedAt i m k (wordAt (m .cells) a) (wordAt (m .cells) b) c
 performed i m Move a b c = done (onward (resultAt m c (wordAt (m .cells) b)))
 performed i m (Go g) a b c = gone i m g b c
 performed i m (Loop x y z) a b c = done (looped m x y z b c)

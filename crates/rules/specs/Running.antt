@@ -13,7 +13,7 @@ use Rattle.rules.specs.Drum.{view, cellAt, wordAt, isOwned, marksOf, ove
 use Rattle.rules.specs.Cards.{traceCard}
 use Rattle.rules.specs.Decks.{deckOf, mayStand}
 use Rattle.rules.specs.Codes.{codes, lookup, codeIn, pchCode, noopCode, checked}
-use Rattle.rules.specs.Machine.{Machine, Inputs, Answer, countA, countB, countC, numbered, isTraced, isTracing, withState, sending, undone}
+use Rattle.rules.specs.Machine.{Machine, Requests, present, Inputs, Answer, countA, countB, countC, numbered, isTraced, isTracing, withState, sending, undone}
 use Rattle.rules.specs.Orders.{performed}
 use Rattle.rules.specs.declared.Address.the-variants.{OfA, OfB, OfC}
 use Rattle.rules.specs.declared.Cell.{Cell}
@@ -174,8 +174,11 @@ ranAs c x =
 abbrev pub begun : RunCall → Machine
 begun c = record { cells = view (c .drum) (c .marks); sent = []; state = c .state }
 
+abbrev pub inputsBy : Requests → RunCall → Inputs
+inputsBy q c = record { deck = c .deck; room = length (c .out); switches = c .switches; requests = q }
+
 abbrev pub inputs : RunCall → Inputs
-inputs c = record { deck = c .deck; room = length (c .out); switches = c .switches }
+inputs c = inputsBy present c
 
 -- Check 12. Of mode and tracing there are three tests: mode is 0 or 1; tracing is 0 or 1; tracing is not on in plain mode, that is, not
 -- above the mode. The reader stands behind the first-order card, at a card's start or the deck's end.
@@ -194,13 +197,16 @@ stateFits v deck behind s budget =
     (both (leb (s .tracing) (s .mode))
     (both (isOwned (cellAt v 0)) (mayStand deck behind (s .reader))))))))))
 
-unfoldable pub ranOn : RunCall → Deck → RunResult
-ranOn c (Faulty f) = notRun c (BadDeck f)
-ranOn c (Good behind order problem) =
+unfoldable pub ranOn : Requests → RunCall → Deck → RunResult
+ranOn q c (Faulty f) = notRun c (BadDeck f)
+ranOn q c (Good behind order problem) =
     pick (stateFits (view (c .drum) (c .marks)) (c .deck) behind (c .state) (c .budget))
-    (ranAs c (runFrom (inputs c) (c .budget) (begun c) 0))
+    (ranAs c (runFrom (inputsBy q c) (c .budget) (begun c) 0))
     (notRun c BadState)
 
--- the checks 10, 11, 12 in their order, and then the run
-unfoldable pub ran : RunCall → RunResult
-ran c = pick (drumFits (length (c .drum)) (c .marks) (view (c .drum) (c .marks))) (ranOn c (deckOf (c .deck))) (notRun c BadDrum)
+-- the checks 10, 11, 12 in their order, and then the run, by these requests
+unfoldable pub ranBy : Requests → RunCall → RunResult
+ranBy q c = pick (drumFits (length (c .drum)) (c .marks) (view (c .drum) (c .marks))) (ranOn q c (deckOf (c .deck))) (notRun c BadDrum)
+
+abbrev pub ran : RunCall → RunResult
+ran c = ranBy present c

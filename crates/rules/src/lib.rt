@@ -27,6 +27,12 @@ pub enum Reckoned {
     Refused(Refusal),
 }
 
+// What is told of a sum or a difference: the answer, and how many digits went.
+pub struct Sum {
+    pub answer: Reckoned,
+    pub lost: u64,
+}
+
 // What is wrong with one card.
 pub enum Fault {
     UnknownKind,
@@ -171,10 +177,11 @@ pub enum Judged {
     Fails(Refusal),
 }
 
-// The stops that an order makes.
+// The stops that an order makes: by itself, by the console's switch, or because its result has lost its digits.
 pub enum Stop {
     Unconditional,
     Conditional,
+    Lost,
 }
 
 // What came of an order, and so of a run: it may go on, it stopped and shows a word, or the order was refused.
