@@ -9,7 +9,7 @@ use Rattle.rules.specs.Drum.{cellAt, wordAt}
 use Rattle.rules.specs.Decks.{judgedFrom}
 use Rattle.rules.specs.Codes.{codes, lookup, checked}
 use Rattle.rules.specs.Machine.{Machine, Inputs, Answer, counting, clearBox, isTraced, isTracing, withState, tracingSet, goingTo, onward, done, undone}
-use Rattle.rules.specs.Orders.{reckonedBy, reckoned, condStopped, gone, largest, raised, five, cardPunched, cardsPunched, punchSize, punched, read, tracingTo, retraced, performed}
+use Rattle.rules.specs.Orders.{reckonedBy, stopsByLoss, reckoned, condStopped, gone, largest, raised, five, cardPunched, cardsPunched, punchSize, punched, read, tracingTo, retraced, performed}
 use Rattle.rules.specs.Running.{orderFits, asDone, allowed, obeyedAs, codeDone, obeyed, traceSize, traceSent, traced, fetched, step}
 use Rattle.rules.specs.declared.Cell.{Cell}
 use Rattle.rules.specs.declared.Cell.the-variants.{Foreign, Owned}
@@ -39,9 +39,9 @@ either-same m false x y p q = q
 
 -- ---- orders
 
-reckoned-same : (m : Machine) (c : ℕ) (r : Reckoned) → Same m (reckoned m c r .machine)
-reckoned-same m c (Result w) = refl
-reckoned-same m c (Refused f) = refl
+reckoned-same : (t : Bool) (m : Machine) (c : ℕ) (r : Reckoned) → Same m (reckoned t m c r .machine)
+reckoned-same t m c (Result w) = refl
+reckoned-same t m c (Refused f) = refl
 
 cond-same : (t : Bool) (m : Machine) (b c : ℕ) → Same m (condStopped t m b c .machine)
 cond-same true m b c = refl
@@ -81,7 +81,8 @@ cards-same (suc j) m b n = go (eqb n 0) refl (cards-same j (cardPunched m b (fiv
 
 performed-same : (i : Inputs) (m : Machine) (o : Operation) (a b c : ℕ) → Same m (performed i m o a b c .machine)
 unfolding performed punched
-performed-same i m (Reckon r) a b c = reckoned-same m c (reckonedBy r (wordAt (m .cells) a) (wordAt (m .cells) b))
+performed-same i m (Reckon r) a b c =
+    reckoned-same (stopsByLoss i r (wordAt (m .cells) a) (wordAt (m .cells) b)) m c (reckonedBy r (wordAt (m .cells) a) (wordAt (m .cells) b))
 performed-same i m Move a b c = refl
 performed-same i m (Go g) a b c = gone-same i m g b c
 performed-same i m (Loop x y z) a b c = round-same (ltb (largest (m .state) x y z) b)

@@ -13,7 +13,7 @@ use Rattle.rules.specs.Drum.{view, wordAt}
 use Rattle.rules.specs.Arithmetic.{addOf, subOf, mpyOf, divOf, ngmpyOf, sqrtOf, absOf}
 use Rattle.rules.specs.Codes.{codes, lookup, andThen, unless, blockFits, addressCheck, markCheck, numberCheck, checked}
 use Rattle.rules.specs.Machine.{Machine, Inputs, Answer, isTraced}
-use Rattle.rules.specs.Orders.{reckoned, performed}
+use Rattle.rules.specs.Orders.{stopsByLoss, reckoned, performed}
 use Rattle.rules.specs.Running.{allowed, obeyedAs, codeDone, obeyed}
 use Rattle.rules.specs.declared.Cell.{Cell}
 use Rattle.rules.specs.declared.Reckoned.{Reckoned}
@@ -86,13 +86,15 @@ no-numbers BlockIn v a b e = refl
 
 module _ (i : Inputs) (m : Machine) (a b c : ℕ) where
   -- of two numbers, and of one
-  two : (r : Reckoning) (p q : Bool) (x : Reckoned) → performed i m (Reckon r) a b c ≡ reckoned m c (pick (both p q) x (Refused NotNumber))
+  two : (r : Reckoning) (p q : Bool) (x : Reckoned)
+      → performed i m (Reckon r) a b c ≡ reckoned (stopsByLoss i r (wordAt (m .cells) a) (wordAt (m .cells) b)) m c (pick (both p q) x (Refused NotNumber))
       → allowed i m (Reckon r) a b c (andThen (unless p NotNumber) (unless q NotNumber)) ≡ performed i m (Reckon r) a b c
   two r true true x e = refl
   two r true false x e = sym e
   two r false q x e = sym e
 
-  one : (r : Reckoning) (q : Bool) (x : Reckoned) → performed i m (Reckon r) a b c ≡ reckoned m c (pick q x (Refused NotNumber))
+  one : (r : Reckoning) (q : Bool) (x : Reckoned)
+      → performed i m (Reckon r) a b c ≡ reckoned (stopsByLoss i r (wordAt (m .cells) a) (wordAt (m .cells) b)) m c (pick q x (Refused NotNumber))
       → allowed i m (Reckon r) a b c (unless q NotNumber) ≡ performed i m (Reckon r) a b c
   one r true x e = refl
   one r false x e = sym e

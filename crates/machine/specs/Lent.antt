@@ -7,7 +7,7 @@ use mathlib.Core.List.{List, [], _∷_}
 use lib.Dec.{eqb}
 use lib.ListN.{length, getD, set}
 use Rattle.rules.specs.Words.{pick}
-use Rattle.rules.specs.Machine.{Machine, Inputs, Answer, countA, countB, countC}
+use Rattle.rules.specs.Machine.{Machine, Inputs, Answer, present, countA, countB, countC}
 use Rattle.rules.specs.Running.{over, Course, RunCall, RunResult, begun, inputs, runFrom}
 use Rattle.rules.specs.States.{stateIn}
 use Rattle.rules.specs.Loads.{LoadResult}
@@ -100,6 +100,7 @@ Sends drum marks out row out′ row′ f =
 pub record Lends (deck : List ℕ) (switches : Switches) (i : Inputs) : Type 0 where
   pub deck-is : i .deck ≡ deck
   pub switches-are : i .switches ≡ switches
+  pub requests-are : i .requests ≡ present
 
 -- a run ended as the rules say
 pub record Ended (drum₀ out₀ drum marks out : List ℕ) (r : Ran) (x : Course) : Type 0 where

@@ -45,7 +45,7 @@ fn perform(
         (now (drum .exit)) (now (marks .exit)) (now (out .exit)) (now (row .exit)) r (λ m. performed i m o a b c)) ⌝ }
 {
     match o {
-        Operation::Reckon(k) => crate::reckoning::reckon_at(drum, marks, row, k, a, b, c),
+        Operation::Reckon(k) => crate::reckoning::reckon_at(drum, marks, row, switches, k, a, b, c),
         Operation::Move => {
             crate::reckoning::move_word(drum, marks, row, b, c);
             Outcome::GoesOn

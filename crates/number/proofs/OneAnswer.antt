@@ -14,6 +14,8 @@ use Rattle.number.proofs.mpy.Kinds as mpy-kinds
 use Rattle.number.proofs.mpy.Reads as mpy
 use Rattle.number.proofs.ngmpy.Kinds as ngmpy-kinds
 use Rattle.number.proofs.ngmpy.Reads as ngmpy
+use Rattle.number.proofs.orders.lost_by.Kinds as lost-by-kinds
+use Rattle.number.proofs.orders.lost_by.Reads as lost-by
 use Rattle.number.proofs.orders.reckon.Kinds as reckon-kinds
 use Rattle.number.proofs.orders.reckon.Reads as reckon
 use Rattle.number.proofs.sqrt.Kinds as sqrt-kinds
@@ -47,3 +49,6 @@ one-magnitude κs a x y s t p q = p ∙ sym q
 
 pub one-reckoned : OneResult 0 reckon-kinds.ps reckon-kinds.r reckon.Post
 one-reckoned κs a x y s t p q = p ∙ sym q
+
+pub one-loss : OneResult 0 lost-by-kinds.ps lost-by-kinds.r lost-by.Post
+one-loss κs a x y s t p q = p ∙ sym q

@@ -1,21 +1,26 @@
 // Word arithmetic: the exact result of two numbers, or of one, rounded once to eight digits. A word that is no number is refused.
+mod losses;
 mod orders;
 mod products;
 mod roots;
 mod rounding;
 mod sums;
 
+use losses::lost;
+pub use orders::lost_by;
 pub use orders::reckon;
 use products::over;
 use products::times;
 use roots::root;
 use rules::Reckoned;
 use rules::Refusal;
-use sums::plus;
+use rules::Sum;
+use sums::difference;
+use sums::sum;
 ghost use mathlib.Core.Path.{_≡_};
 ghost use Rattle.rules.specs.Words.{both, isNumber};
 ghost use Rattle.rules.specs.Rounding.{signs};
-ghost use Rattle.rules.specs.Arithmetic.{valueIn, addOf, subOf, mpyOf, divOf, ngmpyOf, sqrtOf, absOf};
+ghost use Rattle.rules.specs.Arithmetic.{valueIn, addOf, subOf, mpyOf, divOf, ngmpyOf, sqrtOf, absOf, summed};
 
 // A number is +0, or a word of either sign whose ten digits are at least 1000000000.
 pub fn is_number(w: u64) -> bool
@@ -50,25 +55,24 @@ fn crossed(a: u64, b: u64) -> u64
     (a / 10_000_000_000 + b / 10_000_000_000) % 2
 }
 
-// Codes 1 to 5.
-pub fn add(a: u64, b: u64) -> Reckoned
-    ensures { λ r. ⌜ r ≡ addOf a b ⌝ }
+// Codes 1 and 2, with the digits that went.
+pub fn add(a: u64, b: u64) -> Sum
+    ensures { λ r. ⌜ r ≡ summed a b (addOf a b) ⌝ }
 {
-    if !both_numbers(a, b) {
-        return Reckoned::Refused(Refusal::NotNumber);
-    }
-    plus(a, b, b / 10_000_000_000)
+    let answer = sum(a, b);
+    let lost = lost(a, b, answer);
+    Sum { answer, lost }
 }
 
-pub fn sub(a: u64, b: u64) -> Reckoned
-    ensures { λ r. ⌜ r ≡ subOf a b ⌝ }
+pub fn sub(a: u64, b: u64) -> Sum
+    ensures { λ r. ⌜ r ≡ summed a b (subOf a b) ⌝ }
 {
-    if !both_numbers(a, b) {
-        return Reckoned::Refused(Refusal::NotNumber);
-    }
-    plus(a, b, 1 - b / 10_000_000_000)
+    let answer = difference(a, b);
+    let lost = lost(a, b, answer);
+    Sum { answer, lost }
 }
 
+// Codes 3 to 5.
 pub fn mpy(a: u64, b: u64) -> Reckoned
     ensures { λ r. ⌜ r ≡ mpyOf a b ⌝ }
 {

@@ -1,15 +1,18 @@
 // Sums and differences: aligned, exact, and rounded once.
+use crate::both_numbers;
 use crate::rounding::judged;
 use crate::rounding::settle;
 use powers::power;
 use rules::Reckoned;
+use rules::Refusal;
 ghost use mathlib.Core.Path.{_≡_};
 ghost use mathlib.Core.Bool.{true};
 ghost use Prim.Native.Nat.{_+_, _-_, _*_, _^_, _≤_, _<_};
 ghost use lib.Dec.{eqb, leb};
 ghost use Rattle.rules.specs.Words.{pick, isNumber, signIn};
-ghost use Rattle.rules.specs.Rounding.{single, settled, fraction, scaled, sum};
-ghost use Rattle.rules.specs.Arithmetic.{valueIn, wordOf};
+ghost use Rattle.rules.specs.Rounding.{single, settled, fraction, scaled};
+ghost use Rattle.rules.specs.Rounding.{sum as sumBy};
+ghost use Rattle.rules.specs.Arithmetic.{valueIn, wordOf, addOf, subOf};
 ghost use Rattle.number.specs.Asked.{Aligned};
 
 // The number of sign s and v units of the place j, where v has fewer than eight digits: told in units so much smaller that it has eight.
@@ -80,7 +83,7 @@ fn kept(s: u64, t: u64, p: u64, n: u64) -> u64
 // second number changes no digit of the first; below that the sum is exact.
 fn aligned(s: u64, m: u64, x: u64, t: u64, n: u64, y: u64) -> Reckoned
     requires { ⌜ Aligned s m x t n y ⌝ }
-    ensures { λ r. ⌜ r ≡ wordOf (sum single s (m * 10 ^ (x + 100)) t (n * 10 ^ (y + 100))) ⌝ }
+    ensures { λ r. ⌜ r ≡ wordOf (sumBy single s (m * 10 ^ (x + 100)) t (n * 10 ^ (y + 100))) ⌝ }
 {
     let apart = x - y;
     if 10 <= apart {
@@ -91,9 +94,9 @@ fn aligned(s: u64, m: u64, x: u64, t: u64, n: u64, y: u64) -> Reckoned
 }
 
 // The sum of the number a and of the digits of b with the sign t.
-pub(crate) fn plus(a: u64, b: u64, t: u64) -> Reckoned
+fn plus(a: u64, b: u64, t: u64) -> Reckoned
     requires { ⌜ (isNumber a ≡ true) × (isNumber b ≡ true) × (t ≤ 1) ⌝ }
-    ensures { λ r. ⌜ r ≡ wordOf (sum single (signIn a) (scaled single (valueIn a)) t (scaled single (valueIn b))) ⌝ }
+    ensures { λ r. ⌜ r ≡ wordOf (sumBy single (signIn a) (scaled single (valueIn a)) t (scaled single (valueIn b))) ⌝ }
 {
     let s = a / 10_000_000_000;
     let m = a % 10_000_000_000 / 100;
@@ -104,4 +107,23 @@ pub(crate) fn plus(a: u64, b: u64, t: u64) -> Reckoned
         return aligned(t, n, y, s, m, x);
     }
     aligned(s, m, x, t, n, y)
+}
+
+// The two numbers a and b added, and b taken from a.
+pub(crate) fn sum(a: u64, b: u64) -> Reckoned
+    ensures { λ r. ⌜ r ≡ addOf a b ⌝ }
+{
+    if !both_numbers(a, b) {
+        return Reckoned::Refused(Refusal::NotNumber);
+    }
+    plus(a, b, b / 10_000_000_000)
+}
+
+pub(crate) fn difference(a: u64, b: u64) -> Reckoned
+    ensures { λ r. ⌜ r ≡ subOf a b ⌝ }
+{
+    if !both_numbers(a, b) {
+        return Reckoned::Refused(Refusal::NotNumber);
+    }
+    plus(a, b, 1 - b / 10_000_000_000)
 }

@@ -8,16 +8,25 @@ pub use calls::l1_make;
 pub use calls::l1_run;
 use rules::Deck;
 use rules::Reckoned;
+use rules::Sum;
 ghost use mathlib.Core.Path.{_≡_};
-ghost use Rattle.rules.specs.Arithmetic.{addOf, subOf, mpyOf, divOf, ngmpyOf, sqrtOf, absOf};
+ghost use Rattle.rules.specs.Arithmetic.{addOf, subOf, mpyOf, divOf, ngmpyOf, sqrtOf, absOf, summed};
 ghost use Rattle.rules.specs.Decks.{deckOf};
-ghost use Rattle.panel.specs.Told.{wordTold, placeTold};
+ghost use Rattle.panel.specs.Told.{wordTold, sumTold, placeTold};
 
 // What arithmetic tells: 0 and the word, or the stop number and 0.
 #[repr(C)]
 pub struct Word {
     pub number: u64,
     pub word: u64,
+}
+
+// What a sum or a difference tells: the same, and how many digits went.
+#[repr(C)]
+pub struct Summed {
+    pub number: u64,
+    pub word: u64,
+    pub lost: u64,
 }
 
 // What the check of a deck tells: 0 and 0, or 11 and a place in the deck. What a load tells: 0 and 0, or why it is refused.
@@ -34,6 +43,17 @@ fn word_told(x: Reckoned) -> Word
     let number = stops::reckoned_number(x);
     let word = stops::reckoned_word(x);
     Word { number, word }
+}
+
+// What is told of a sum or a difference.
+fn sum_told(x: Sum) -> Summed
+    ensures { λ r. ⌜ r ≡ sumTold x ⌝ }
+{
+    let answer = x.answer;
+    let number = stops::reckoned_number(answer);
+    let word = stops::reckoned_word(answer);
+    let lost = x.lost;
+    Summed { number, word, lost }
 }
 
 // What is told of the check of a deck.
@@ -76,17 +96,17 @@ pub struct Made {
 
 // Codes 1 to 5, on any two numbers of 64 bits.
 #[no_mangle]
-pub extern "C" fn l1_add(a: u64, b: u64) -> Word
-    ensures { λ r. ⌜ r ≡ wordTold (addOf a b) ⌝ }
+pub extern "C" fn l1_add(a: u64, b: u64) -> Summed
+    ensures { λ r. ⌜ r ≡ sumTold (summed a b (addOf a b)) ⌝ }
 {
-    word_told(number::add(a, b))
+    sum_told(number::add(a, b))
 }
 
 #[no_mangle]
-pub extern "C" fn l1_sub(a: u64, b: u64) -> Word
-    ensures { λ r. ⌜ r ≡ wordTold (subOf a b) ⌝ }
+pub extern "C" fn l1_sub(a: u64, b: u64) -> Summed
+    ensures { λ r. ⌜ r ≡ sumTold (summed a b (subOf a b)) ⌝ }
 {
-    word_told(number::sub(a, b))
+    sum_told(number::sub(a, b))
 }
 
 #[no_mangle]

@@ -52,8 +52,7 @@ result-grows : (v : List Cell) (c w : ℕ) → Grows v (store (store v c w) 0 w)
 result-grows v c w k e = store-grows v c w k (store-grows (store v c w) 0 w k e)
 
 reckoned-grows : (t : Bool) (m : Machine) (c : ℕ) (r : Reckoned) → Grows (m .cells) (reckoned t m c r .machine .cells)
-reckoned-grows true m c (Result w) = result-grows (m .cells) c w
-reckoned-grows false m c (Result w) = result-grows (m .cells) c w
+reckoned-grows t m c (Result w) = result-grows (m .cells) c w
 reckoned-grows t m c (Refused r) = same (m .cells)
 
 words-grow : (d : List ℕ) (l n : ℕ) (v : List Cell) → Grows v (wordsStored d l n v)

@@ -87,8 +87,7 @@ module _ (p : List ℕ) (r : ℕ) (i : Inputs) where
   room-alike false t′ m x x′ a = first-full refl
 
   reckoned-alike : (t : Bool) (m : Machine) (c : ℕ) (x : Reckoned) → Alike p (reckoned t m c x) (reckoned t (sentBefore p m) c x)
-  reckoned-alike true m c (Result w) = alike refl
-  reckoned-alike false m c (Result w) = alike refl
+  reckoned-alike t m c (Result w) = alike refl
   reckoned-alike t m c (Refused f) = alike refl
 
   cond-alike : (t : Bool) (m : Machine) (b c : ℕ) → Alike p (condStopped t m b c) (condStopped t (sentBefore p m) b c)

@@ -187,8 +187,7 @@ module _ {deck : List ℕ} {behind : ℕ} where
 
   pub reckons : (t : Bool) (m : Machine) (c : ℕ) (r : Reckoned) → IsWord r → m .state .location ≤ 999 → Sound deck behind m
       → Sound deck behind (reckoned t m c r .machine)
-  reckons true m c (Result w) f l h = goes-on l (stores 0 w f (stores c w f h))
-  reckons false m c (Result w) f l h = goes-on l (stores 0 w f (stores c w f h))
+  reckons t m c (Result w) f l h = goes-on l (stores 0 w f (stores c w f h))
   reckons t m c (Refused r) f l h = h
 
   stops-if : (t : Bool) (m : Machine) (b c : ℕ) → c ≤ 999 → Sound deck behind m → Sound deck behind (condStopped t m b c .machine)

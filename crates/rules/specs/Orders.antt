@@ -19,7 +19,8 @@ use Rattle.rules.specs.declared.Refusal.the-variants.{NoRoom}
 use Rattle.rules.specs.declared.Judged.{Judged}
 use Rattle.rules.specs.declared.Judged.the-variants.{Fits, Fails}
 use Rattle.rules.specs.declared.Stop.the-variants.{Unconditional, Conditional, Lost}
-use Rattle.rules.specs.declared.Outcome.the-variants.{Stops}
+use Rattle.rules.specs.declared.Outcome.{Outcome}
+use Rattle.rules.specs.declared.Outcome.the-variants.{GoesOn, Stops}
 use Rattle.rules.specs.declared.Operation.{Operation}
 use Rattle.rules.specs.declared.Operation.the-variants.{Reckon, Move, Go, Loop, Change, Read, Pch, Trace}
 use Rattle.rules.specs.declared.Reckoning.{Reckoning}
@@ -65,13 +66,14 @@ stopsAt i n = both (i .requests .lossStops) (both (i .switches .stop) (ltb 2 n))
 abbrev pub stopsByLoss : Inputs → Reckoning → ℕ → ℕ → Bool
 stopsByLoss i k x y = stopsAt i (lossBy k x y (reckonedBy k x y))
 
--- the result w is stored and the next order follows; either the run stops there and shows it, or it goes on
-abbrev pub resulted : Bool → ℕ → Machine → Answer
-resulted true w m = stops (Stops Lost w) m
-resulted false w m = done m
+-- with the result w the run stops and shows it, or it goes on
+abbrev pub resulted : Bool → ℕ → Outcome
+resulted true w = Stops Lost w
+resulted false w = GoesOn
 
+-- either way the result is stored, and the next order follows
 abbrev pub reckoned : Bool → Machine → ℕ → Reckoned → Answer
-reckoned t m c (Result w) = resulted t w (onward (resultAt m c w))
+reckoned t m c (Result w) = stops (resulted t w) (onward (resultAt m c w))
 reckoned t m c (Refused r) = undone r m
 
 abbrev pub reckonedAt : Inputs → Machine → Reckoning → ℕ → ℕ → ℕ → Answer

@@ -9,7 +9,7 @@ use Rattle.rules.specs.Words.{both, isWord}
 use Rattle.rules.specs.Numbers.{stopNumber, refusalNumber, outcomeNumber, outcomeShown}
 use Rattle.rules.specs.Running.{RunCall, RunResult, begun, inputs, ranAs}
 use Rattle.rules.specs.declared.Stop.{Stop}
-use Rattle.rules.specs.declared.Stop.the-variants.{Unconditional, Conditional}
+use Rattle.rules.specs.declared.Stop.the-variants.{Unconditional, Conditional, Lost}
 use Rattle.rules.specs.declared.Refusal.{Refusal}
 use Rattle.rules.specs.declared.Refusal.the-variants.{BadAddress, Unmarked, NoRoom, NotBuilt, NotNumber, ZeroDivisor, NegativeRoot, OutOfRange, Unfit, NoCard}
 use Rattle.rules.specs.declared.Outcome.{Outcome}
@@ -24,6 +24,7 @@ use Rattle.says.specs.Fields.{RunsClose}
 stop-small : (k : Stop) → stopNumber k ≤ 99
 stop-small Unconditional = omega arith
 stop-small Conditional = omega arith
+stop-small Lost = omega arith
 
 refusal-small : (r : Refusal) → refusalNumber r ≤ 99
 refusal-small BadAddress = omega arith

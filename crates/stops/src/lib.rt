@@ -111,10 +111,11 @@ pub fn stop_number(x: Stop) -> u64
     match x {
         Stop::Unconditional => 0,
         Stop::Conditional => 1,
+        Stop::Lost => 3,
     }
 }
 
-// What a run came to, and the word it shows: +0 but for the two stops.
+// What a run came to, and the word it shows: +0 but for a stop.
 pub fn outcome_number(x: Outcome) -> u64
     ensures { λ r. ⌜ r ≡ outcomeNumber x ⌝ }
 {

@@ -23,7 +23,7 @@ returns c =
     λ i l drum₀ out₀ m e h.
     let told : tie.After-o = search in
     let done : tie.After-reckon-at = search in
-    rw (told .o .given .1) (done .reckon-at .ensures drum₀ out₀ _ m h)
+    rw (told .o .given .1) (done .reckon-at .ensures i (l .switches-are) (l .requests-are) drum₀ out₀ _ m h)
 
 returns-2 : tie.Need-returns-2
 unfolding performed

@@ -6,7 +6,7 @@ use native.Mathlib.Omega.{arith}
 use lib.Dec.{eqb}
 use lib.ListN.{length, getD}
 use Rattle.rules.specs.Numbers.{mayGoOn, completed}
-use Rattle.rules.specs.Machine.{Machine, Inputs}
+use Rattle.rules.specs.Machine.{Machine, Inputs, present}
 use Rattle.rules.specs.Running.{RunCall, Course, step, runFrom, begun, inputs}
 use Rattle.rules.specs.States.{stateIn}
 use Rattle.rules.specs.declared.State.{State}
@@ -54,7 +54,7 @@ in-of c = search
 abbrev lent : tie.At-loop Inv-loop μ-loop → Inputs
 lent c =
     let a = start-of c .args in
-    record { deck = a .deck .now; room = length (a .out .now); switches = a .switches }
+    record { deck = a .deck .now; room = length (a .out .now); switches = a .switches; requests = present }
 
 abbrev before : tie.At-loop Inv-loop μ-loop → Machine
 before c = c .loop .inv .1 .0
@@ -64,7 +64,7 @@ did : (c : tie.After-step Inv-loop μ-loop)
     Did (a .drum .now) (a .out .now) (c .step .last .0) (c .step .last .1 .0) (c .step .last .1 .1 .0) (c .step .last .1 .1 .1 .0) (c .step .result) (step (lent at) (before at)))
 did c =
     let at = at-of (in-of c) in
-    c .step .ensures (lent at) (record { deck-is = refl; switches-are = refl }) _ _ (before at) refl (at .loop .inv .1 .1)
+    c .step .ensures (lent at) (record { deck-is = refl; switches-are = refl; requests-are = refl }) _ _ (before at) refl (at .loop .inv .1 .1)
 
 -- the run of the call is the run from the ten numbers that were made of its state
 whole : (c : tie.At-loop Inv-loop μ-loop) {drum marks out : List ℕ} {r : Ran} (x : Course)
