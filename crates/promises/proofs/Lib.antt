@@ -15,6 +15,7 @@ pub mod Again
 pub mod Barred
 pub mod Beside
 pub mod Rooms
+pub mod LossStops
 pub mod Shapes
 pub mod SameDecks
 pub mod Making

@@ -8,8 +8,8 @@ use Rattle.rules.specs.Words.{pick}
 use Rattle.rules.specs.Numbers.{outcomeShown}
 use Rattle.rules.specs.Drum.{view, drumFits}
 use Rattle.rules.specs.Decks.{deckOf}
-use Rattle.rules.specs.Machine.{present}
-use Rattle.rules.specs.Running.{Course, runFrom, RunCall, RunResult, notRun, begun, inputs, stateFits, ranAs, ranOn, ranBy, ran}
+use Rattle.rules.specs.Machine.{Requests, present}
+use Rattle.rules.specs.Running.{Course, runFrom, RunCall, RunResult, notRun, begun, inputsBy, inputs, stateFits, ranAs, ranOn, ranBy, ran}
 use Rattle.rules.specs.declared.Deck.{Deck}
 use Rattle.rules.specs.declared.Deck.the-variants.{Good, Faulty}
 use Rattle.rules.specs.declared.Bar.{Bar}
@@ -30,38 +30,47 @@ pub record Entered (c : RunCall) : Type 0 where
   pub deck-good : deckOf (c .deck) ≡ Good first order problem
   pub state-fits : stateFits (view (c .drum) (c .marks)) (c .deck) first (c .state) (c .budget) ≡ true
 
--- the run that is then made
-abbrev pub course : RunCall → Course
-course c = runFrom (inputs c) (c .budget) (begun c) 0
+-- the run that is then made, by these requests and by all
+abbrev pub courseBy : Requests → RunCall → Course
+courseBy q c = runFrom (inputsBy q c) (c .budget) (begun c) 0
 
--- What is said of a run's result where no run is made, and where one is made, is said of each.
-module _ (P : RunResult → Type 0) (c : RunCall) (not : (b : Bar) → P (notRun c b)) (did : Entered c → P (ranAs c (course c))) where
+abbrev pub course : RunCall → Course
+course c = courseBy present c
+
+-- What is said of a run's results, by all kinds of requests, where no run is made, and where one is made, is said of each.
+module _ (P : (Requests → RunResult) → Type 0) (c : RunCall) (not : (b : Bar) → P (λ q. notRun c b)) (did : Entered c → P (λ q. ranAs c (courseBy q c))) where
   by-state : (first order problem : ℕ) → drumFits (length (c .drum)) (c .marks) (view (c .drum) (c .marks)) ≡ true
       → deckOf (c .deck) ≡ Good first order problem
       → (t : Bool) → stateFits (view (c .drum) (c .marks)) (c .deck) first (c .state) (c .budget) ≡ t
-      → P (pick t (ranAs c (course c)) (notRun c BadState))
+      → P (λ q. pick t (ranAs c (courseBy q c)) (notRun c BadState))
   by-state first order problem d g true e =
       did (record { drum-fits = d; first = first; order = order; problem = problem; deck-good = g; state-fits = e })
   by-state first order problem d g false e = not BadState
 
-  by-deck : drumFits (length (c .drum)) (c .marks) (view (c .drum) (c .marks)) ≡ true → (d : Deck) → deckOf (c .deck) ≡ d → P (ranOn present c d)
+  by-deck : drumFits (length (c .drum)) (c .marks) (view (c .drum) (c .marks)) ≡ true → (d : Deck) → deckOf (c .deck) ≡ d → P (λ q. ranOn q c d)
   unfolding ranOn
   by-deck f (Faulty x) g = not (BadDeck x)
   by-deck f (Good first order problem) g =
       by-state first order problem f g (stateFits (view (c .drum) (c .marks)) (c .deck) first (c .state) (c .budget)) refl
 
   by-drum : (t : Bool) → drumFits (length (c .drum)) (c .marks) (view (c .drum) (c .marks)) ≡ t
-      → P (pick t (ranOn present c (deckOf (c .deck))) (notRun c BadDrum))
+      → P (λ q. pick t (ranOn q c (deckOf (c .deck))) (notRun c BadDrum))
   by-drum true e = by-deck e (deckOf (c .deck)) refl
   by-drum false e = not BadDrum
 
-  pub of-run : P (ran c)
+  pub of-runs : P (λ q. ranBy q c)
   unfolding ranBy
-  of-run = by-drum (drumFits (length (c .drum)) (c .marks) (view (c .drum) (c .marks))) refl
+  of-runs = by-drum (drumFits (length (c .drum)) (c .marks) (view (c .drum) (c .marks))) refl
+
+pub of-run : (P : RunResult → Type 0) (c : RunCall) → ((b : Bar) → P (notRun c b)) → (Entered c → P (ranAs c (course c))) → P (ran c)
+of-run P c not did = of-runs (λ (r : Requests → RunResult). P (r present)) c not did
+
+pub ran-course-by : (q : Requests) (c : RunCall) → Entered c → ranBy q c ≡ ranAs c (courseBy q c)
+unfolding ranBy ranOn
+ran-course-by q c h = rw (h .drum-fits, h .deck-good, h .state-fits)
 
 pub ran-course : (c : RunCall) → Entered c → ran c ≡ ranAs c (course c)
-unfolding ranBy ranOn
-ran-course c h = rw (h .drum-fits, h .deck-good, h .state-fits)
+ran-course c h = ran-course-by present c h
 
 -- ---- the machine that it begins with, and the one that it leaves
 

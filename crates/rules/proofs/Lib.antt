@@ -30,6 +30,7 @@ pub mod Full
 pub mod RoomRuns
 pub mod ShownWords
 pub mod Entered
+pub mod LossStops
 pub mod Blocks
 pub mod MadeSizes
 pub mod MadeCells
