@@ -7,6 +7,7 @@ pub mod Counting
 pub mod Rounding
 pub mod Due
 pub mod Reckoning
+pub mod LostDigits
 pub mod Cards
 pub mod Worked
 pub mod Prepared

@@ -9,6 +9,7 @@ pub mod Rounding
 pub mod Roots
 pub mod Fractions
 pub mod Sums
+pub mod Losses
 pub mod Digits
 pub mod Fields
 pub mod Dues
