@@ -29,6 +29,14 @@ struct l1_word {
     uint64_t word;   /* the result, a number of the machine; 0 with a refusal */
 };
 
+/* What a sum and a difference answer: the same, and how many digits went. */
+struct l1_sum {
+    uint64_t number; /* 0, or 24 or 27 */
+    uint64_t word;   /* the result, a number of the machine; 0 with a refusal */
+    uint64_t lost;   /* the larger exponent of a and b less the result's, 0 where that is below zero; 0 where a, b or the result is
+                        zero; 0 with a refusal. From 3 on the order would stop a run, with 3, if the switch is on STOP */
+};
+
 /* What the check of a deck answers: 0 and 0, or 11 and a place. */
 struct l1_place {
     uint64_t number; /* 0 for a good deck, 11 for one that breaks a card rule */
@@ -39,8 +47,8 @@ struct l1_place {
 /* Arithmetic on two words. The exact result is rounded once to eight digits, a half away from zero; zero is always the word 0.
  * Either operand may be any 64-bit number. Stop numbers: 24, an operand is not a number of the machine, one above 19,999,999,999
  * among them; 27, the exponent after rounding is below 00 or above 99; for l1_div also 25, b is 0. Of these 24 comes first. */
-struct l1_word l1_add(uint64_t a, uint64_t b);   /* a + b */
-struct l1_word l1_sub(uint64_t a, uint64_t b);   /* a - b */
+struct l1_sum l1_add(uint64_t a, uint64_t b);    /* a + b */
+struct l1_sum l1_sub(uint64_t a, uint64_t b);    /* a - b */
 struct l1_word l1_mpy(uint64_t a, uint64_t b);   /* a times b */
 struct l1_word l1_div(uint64_t a, uint64_t b);   /* a divided by b */
 struct l1_word l1_ngmpy(uint64_t a, uint64_t b); /* a times b, with the other sign */
@@ -78,17 +86,19 @@ struct l1_place l1_load(uint64_t *drum, size_t cells, uint8_t *marks, size_t mar
 
 /* What a run answers. */
 struct l1_ended {
-    uint64_t number;  /* how it ended: 0 or 1 for the two stops, 2 where the budget is used, 10, 11 or 12 where nothing was begun,
-                         20 to 29 where the order at the location was refused and undone */
+    uint64_t number;  /* how it ended: 0 or 1 for the stops that an order asks for, 2 where the budget is used, 3 where the switch is on
+                         STOP and the sum or the difference in front of the location has lost more than two digits, 10, 11 or 12
+                         where nothing was begun, 20 to 29 where the order at the location was refused and undone */
     uint64_t place;   /* with 11 the place that l1_deck tells, else 0 */
     uint64_t count;   /* the orders completed in this call, an order that stopped the run among them */
-    uint64_t shown;   /* the word that a stop shows, as a number; 0 but for the stops 0 and 1 */
+    uint64_t shown;   /* the word that a stop shows, as a number, which with 3 is the result; 0 but for the stops 0, 1 and 3 */
     uint64_t written; /* how many bytes at the start of the output hold cards of this call; the bytes past them are as before */
 };
 
 /* Runs orders from the location on, at most budget of them, with the PROGRAMMED STOP switch on RUN where stop is 0 and on STOP where
  * it is any other number. Cards for READ come from the deck behind the reader; cards punched and trace cards go to the room bytes at
- * out. Drum, marks and state are left so that a later call goes on. Where nothing is begun, nothing that was lent is changed, and the
+ * out. Drum, marks and state are left so that a later call goes on; after 3 too the result is stored and the order counted, and the
+ * next call begins with the order behind it. Where nothing is begun, nothing that was lent is changed, and the
  * number is the first of 10 and 11, as for l1_load, and
  *   12: state_len is not 9, or the state or the budget is not one that a run may have: budget above 999,999, location above 1000, a
  *       count above 999, card counter above 9999, problem number above 999, mode above 1, tracing above mode, cell 000 not marked, or
