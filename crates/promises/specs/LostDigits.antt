@@ -1,6 +1,6 @@
 -- What the loss of a sum says of its numbers: like signs lose nothing; a loss of n digits leaves less than the 10 ^ (n - 1)th part of the
--- larger operand; and from two digits on nothing was rounded, so that the last n - 1 digits of the result are zeros that no operand had.
--- For any form of numbers, and then for words. Assumes nothing.
+-- larger operand, and more than the 10 ^ (n + 1)th; and from two digits on nothing was rounded, so that the last n - 1 digits of the result
+-- are zeros that no operand had. For any form of numbers, and then for words. Assumes nothing.
 use Prim.Native.Nat.{ℕ, suc, _+_, _-_, _*_, _^_, max, _≤_, _<_}
 use mathlib.Core.Path.{_≡_}
 use mathlib.Core.Logic.{_⊎_}
@@ -26,6 +26,7 @@ pub record Says (f : Form) (x y : Value) (t : ℕ) (z : Value) : Type 0 where
   pub carries : x .sign ≡ t → (z .exponent ≡ upper x y) ⊎ (z .exponent ≡ suc (upper x y))
   pub none : x .sign ≡ t → lossOf x y z ≡ 0
   pub smaller : 1 ≤ lossOf x y z → scaled f z * 10 ^ (lossOf x y z - 1) < max (scaled f x) (scaled f y)
+  pub within : max (scaled f x) (scaled f y) < scaled f z * 10 ^ (lossOf x y z + 1)
   pub exact : 2 ≤ lossOf x y z → scaled f z ≡ left (scaled f x) (scaled f y)
   pub zeros : 2 ≤ lossOf x y z → (q : ℕ) × (z .leading ≡ q * 10 ^ (lossOf x y z - 1))
 
@@ -40,6 +41,7 @@ LossSays =
 pub record WordSays (a b t w n : ℕ) : Type 0 where
   pub none : signIn a ≡ t → n ≡ 0
   pub smaller : 1 ≤ n → worth w * 10 ^ (n - 1) < max (worth a) (worth b)
+  pub within : 0 < leadingIn a → 0 < leadingIn b → 0 < leadingIn w → max (worth a) (worth b) < worth w * 10 ^ (n + 1)
   pub exact : 2 ≤ n → worth w ≡ left (worth a) (worth b)
   pub zeros : 2 ≤ n → (q : ℕ) × (leadingIn w ≡ q * 10 ^ (n - 1))
 

@@ -1,6 +1,6 @@
 -- The digits that a sum loses, for any form. Like signs lose none. Where two or more are lost, the exponents are at most one apart: what is
 -- left is then a whole number of the result's units, so that nothing is rounded. Assumes nothing.
-use Prim.Native.Nat.{ℕ, suc, _+_, _-_, _*_, _^_, _≤_, _<_}
+use Prim.Native.Nat.{ℕ, suc, _+_, _-_, _*_, _^_, max, _≤_, _<_}
 use mathlib.Core.Path.{_≡_, sym, ap, subst, _∙_}
 use mathlib.Core.Logic.{_⊎_, inl, inr, ⊎-elim}
 use native.Mathlib.Nat.{eq-or-lt-of-le, lt-of-not-le, mul-assoc, mul-sub, mul-le-mul, mul-le-mul-left, mul-le-mul-right, mul-lt-mul-of-pos-right, pow-suc}
@@ -10,7 +10,7 @@ use lib.Pow.{pow-add}
 use Rattle.rules.specs.Rounding.{Form, Value, value, fraction, settled, scaled, sum}
 use Rattle.rules.specs.Rounded.{Rounded}
 use Rattle.rules.proofs.Nearest.{ten-above, ten-rises, nearest-is}
-use Rattle.rules.proofs.Rounded.{rounded-nearest}
+use Rattle.rules.proofs.Rounded.{rounded-nearest, rounded-first}
 use Rattle.rules.proofs.Rounding.{Answer, answered}
 use Rattle.rules.proofs.Sums.{sum-same, sum-first, sum-second}
 
@@ -70,6 +70,7 @@ pub record Lost (f : Form) (x y z : Value) : Type 0 where
   pub some : 0 < z .leading
   pub carries : x .sign ≡ y .sign → (z .exponent ≡ x .exponent) ⊎ (z .exponent ≡ suc (x .exponent))
   pub smaller : 1 ≤ x .exponent - z .exponent → scaled f z * 10 ^ (x .exponent - z .exponent - 1) < scaled f x
+  pub within : max (scaled f x) (scaled f y) < scaled f z * 10 ^ (x .exponent - z .exponent + 1)
   pub exact : 2 ≤ x .exponent - z .exponent → scaled f z ≡ apart (scaled f x) (scaled f y)
   pub zeros : 2 ≤ x .exponent - z .exponent → (q : ℕ) × (z .leading ≡ q * 10 ^ (x .exponent - z .exponent - 1))
 
@@ -87,24 +88,29 @@ module _ (f : Form) (has : 0 < f .digits) (x y z : Value) (order : y .exponent �
   abbrev a : ℕ
   a = z .exponent
 
-  -- the digits are enough for what is rounded, and it is not zero
+  tenfold : all ≡ 10 ^ (f .digits - 1) * 10
+  tenfold = ap (λ (k : ℕ). 10 ^ k) (omega arith) ∙ pow-suc 10 (f .digits - 1)
+
+  -- the digits are enough for what is rounded
   module _ (v : ℕ) (g : Rounds f v (z .leading) a) where
     enough : 2 * v + unit f a < 2 * (all * unit f a)
     enough = omega (arith, mul-le-mul-right (unit f a) (g .rounded .fits))
 
-    some : 0 < z .leading
-    some = lt-of-not-le (λ l. omega (arith, mul-le-mul-right (unit f a) l, mul-le-mul-right (unit f a) (ten-rises has), ten-above (a + f .exponents)))
+    -- and they are all there
+    first : 10 ^ (f .digits - 1) ≤ z .leading
+    first =
+        rounded-first (f .digits - 1) (fraction v 1) (unit f a) (z .leading) (ten-above (a + f .exponents))
+        (subst (λ (d : ℕ). Rounded d (fraction v 1) (unit f a) (z .leading)) (omega arith) (g .rounded))
 
   -- at an exponent below its own they are not enough for x; at its own they are for y
   over : (j b : ℕ) → j + b < e → all * 10 ^ j * unit f b ≤ scaled f x
   over j b l =
       let place : ℕ = j + (b + f .exponents) in
-      let digits : all ≡ 10 ^ (f .digits - 1) * 10 = ap (λ (k : ℕ). 10 ^ k) (omega arith) ∙ pow-suc 10 (f .digits - 1) in
       let below : suc place ≤ e + f .exponents = omega arith in
       omega (
         arith,
         finer all j (b + f .exponents) {k = place} (omega arith),
-        ap (λ (k : ℕ). k * 10 ^ place) digits,
+        ap (λ (k : ℕ). k * 10 ^ place) tenfold,
         finer (10 ^ (f .digits - 1)) 1 place {k = suc place} (omega arith),
         mul-le-mul least (ten-rises below),
       )
@@ -141,6 +147,24 @@ module _ (f : Form) (has : 0 < f .digits) (x y z : Value) (order : y .exponent �
         mul-lt-mul-of-pos-right fits (ten-above (e - 1 + f .exponents)),
       )
 
+  -- at a place that is no lower than x's, ten times the result's digits are at least the number of all
+  within : 10 ^ (f .digits - 1) ≤ z .leading → max (scaled f x) (scaled f y) < scaled f z * 10 ^ (e - a + 1)
+  within first =
+      let place : ℕ = a + f .exponents + (e - a) in
+      let top : e + f .exponents ≤ place = omega arith in
+      let next : c + f .exponents ≤ e + f .exponents = omega arith in
+      omega (
+        arith,
+        under,
+        mul-lt-mul-of-pos-right most (ten-above (e + f .exponents)),
+        mul-le-mul-left all (ten-rises next),
+        mul-le-mul-left all (ten-rises top),
+        ap (λ (k : ℕ). k * 10 ^ place) tenfold,
+        mul-le-mul-right (10 ^ place) first,
+        finer (z .leading) (a + f .exponents) (e - a + 1) {k = place + 1} (omega arith),
+        finer (z .leading) 1 place {k = place + 1} (omega arith),
+      )
+
   module _ (two : 2 ≤ e - a) where
     rounds : Rounds f (apart (scaled f x) (scaled f y)) (z .leading) a
     rounds =
@@ -170,9 +194,10 @@ module _ (f : Form) (has : 0 < f .digits) (x y z : Value) (order : y .exponent �
   lost =
       let g : (v : ℕ) × Rounds f v (z .leading) a = sum-rounds f (x .sign) (scaled f x) (y .sign) (scaled f y) (z .sign) (z .leading) a i in
       record {
-        some = some (g .0) (g .1);
+        some = omega (arith, first (g .0) (g .1), ten-above (f .digits - 1));
         carries = carries;
         smaller = smaller (g .1 .rounded .fits);
+        within = within (first (g .0) (g .1));
         exact = λ two. ap (λ (k : ℕ). k * unit f a) (digits two) ∙ sym (whole two);
         zeros = λ two. (units two * 10 ^ (suc c - e), digits two ∙ finer (units two) (suc c - e) (e - a - 1) (omega (arith, near two)));
       }
