@@ -29,6 +29,13 @@ struct l1_word {
     uint64_t word;   /* the result, a number of the machine; 0 with a refusal */
 };
 
+/* What addition and subtraction answer. */
+struct l1_sum {
+    uint64_t number; /* 0, or 24 or 27 */
+    uint64_t word;   /* the result, a number of the machine; 0 with a refusal */
+    uint64_t lost;   /* how many digits went; 0 with a refusal */
+};
+
 /* What the check of a deck answers: 0 and 0, or 11 and a place. */
 struct l1_place {
     uint64_t number; /* 0 for a good deck, 11 for one that breaks a card rule */
@@ -39,8 +46,8 @@ struct l1_place {
 /* Arithmetic on two words. The exact result is rounded once to eight digits, a half away from zero; zero is always the word 0.
  * Either operand may be any 64-bit number. Stop numbers: 24, an operand is not a number of the machine, one above 19,999,999,999
  * among them; 27, the exponent after rounding is below 00 or above 99; for l1_div also 25, b is 0. Of these 24 comes first. */
-struct l1_word l1_add(uint64_t a, uint64_t b);   /* a + b */
-struct l1_word l1_sub(uint64_t a, uint64_t b);   /* a - b */
+struct l1_sum l1_add(uint64_t a, uint64_t b);    /* a + b */
+struct l1_sum l1_sub(uint64_t a, uint64_t b);    /* a - b */
 struct l1_word l1_mpy(uint64_t a, uint64_t b);   /* a times b */
 struct l1_word l1_div(uint64_t a, uint64_t b);   /* a divided by b */
 struct l1_word l1_ngmpy(uint64_t a, uint64_t b); /* a times b, with the other sign */
