@@ -98,6 +98,13 @@ static int add(uint64_t a, uint64_t b, int turned, uint64_t *word)
     return m >= n ? round_off(s, m - n, y, word) : round_off(t, n - m, y, word);
 }
 
+/* How many digits went in a sum or a difference w of a and b. */
+static uint64_t lost(uint64_t a, uint64_t b, uint64_t w)
+{
+    uint64_t most = a % 100 > b % 100 ? a % 100 : b % 100;
+    return a && b && w && most > w % 100 ? most - w % 100 : 0;
+}
+
 static int multiply(uint64_t a, uint64_t b, int turned, uint64_t *word)
 {
     int minus = (a >= MINUS) ^ (b >= MINUS) ^ turned;
@@ -350,6 +357,7 @@ static int trace(struct run *r, uint64_t w, uint64_t x)
     return OK;
 }
 
+/* Codes 1 to 5. A stop puts 100 and its number, here and below. */
 static int reckon(struct run *r, uint64_t o1, uint64_t a, uint64_t b, uint64_t c)
 {
     uint64_t x = r->drum[a], y = r->drum[b], w;
@@ -379,6 +387,10 @@ static int reckon(struct run *r, uint64_t o1, uint64_t a, uint64_t b, uint64_t c
     store(r, c, w);
     store(r, 0, w);
     r->s.at++;
+    if (r->stop && o1 <= 2 && lost(x, y, w) > 2) {
+        r->shown = w;
+        return 103;
+    }
     return OK;
 }
 
@@ -488,7 +500,7 @@ static int read_block(struct run *r, uint64_t b, uint64_t c)
     return OK;
 }
 
-/* Orders with O1 zero. A stop puts 100 and its number. */
+/* Orders with O1 zero. */
 static int by_code(struct run *r, uint64_t o2, uint64_t b, uint64_t c)
 {
     struct state *s = &r->s;

@@ -44,15 +44,16 @@ no_difference() {
     ! grep -q "^$2: 500 .*, [1-9][0-9]* differences" "$made/judge.log"
 }
 
-# with_fault FAULT: whether the judge counts none on makings by tests/self/makes.c with one fault, or with none where FAULT is empty.
+# with_fault FACE KIND FAULT: whether the judge counts none on cases of the kind by tests/self/FACE.c with one fault, or with none where
+# FAULT is empty.
 with_fault() (
-    export L1_FAULT="$1"
-    face=-makes
-    no_difference driver makes
+    export L1_FAULT="$3"
+    face=-$1
+    no_difference driver "$2"
 )
 
-# without_fault: what with_fault sees is the fault.
-without_fault() { ! with_fault ''; }
+# without_fault FACE KIND: what with_fault sees is the fault.
+without_fault() { ! with_fault "$1" "$2" ''; }
 
 # with_make FAULT COMMAND [WORDS..]: the command with the program tests/self/wrong-make, whose make has one fault, or none where it is empty.
 with_make() (
@@ -115,14 +116,25 @@ for stub in idle refusing silent; do
     for kind in numbers decks codes sessions makes; do fails "$kind, $stub" no_difference driver "$kind"; done
 done
 build_c driver-makes panel tests/self/makes.c || exit 2
-fails 'makes, no fault' without_fault
+fails 'makes, no fault' without_fault makes makes
 for fault in numbered-from-0 card-numbers-of-a-byte with-000 without-999 rest-first cards-of-four unmarked-let-in no-minus-zero \
     problem-on-the-last-card-alone first-order-card-not-told byte-past-the-deck drum-changed marks-changed unmarked-judged largest-word \
     000-not-judged any-mark any-number long-drum long-marks first-0 first-1000 first-of-16-bits first-of-32-bits first-marked \
     problem-1000 problem-of-16-bits problem-of-32-bits 12-before-10 22-before-10 22-before-12 room-to-spare length-told-with-22 \
     written-then-refused; do
-    fails "makes, $fault" with_fault "$fault"
+    fails "makes, $fault" with_fault makes makes "$fault"
 done
+build_c driver-sums panel tests/self/sums.c || exit 2
+while read -r kind faults; do
+    fails "$kind, no fault of sums" without_fault sums "$kind"
+    for fault in $faults; do fails "$kind, sums: $fault" with_fault sums "$kind" "$fault"; done
+done <<END
+numbers smaller-exponent first-exponent second-exponent zero-result below-zero before-rounding above-two-alone at-most-seven told-with-24 \
+    told-with-27 add-alone sub-alone
+sessions smaller-exponent zero-result two-stops three-does-not add-alone sub-alone products-too on-run switch-of-1 not-traced \
+    not-while-tracing traced-alone plus-orders-alone before-27 told-as-01 02-at-the-end shows-nothing shows-an-operand not-counted \
+    location-stays 0-behind-999 not-stored-at-c not-stored-at-000 one-order-more
+END
 build_c judged-silent panel tests/self/silent.c || exit 2
 fails 'yardstick, silent' no_difference judged sessions
 echo "self: $tried checks tried with what does not work, $blind do not see it"

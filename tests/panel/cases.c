@@ -1,6 +1,6 @@
 /* A table of calls of the C face with what the paper says of each: P1 to P10 of its table, the turns of its rules, decks, the paper's
- * session, calls that are refused at their entry, and decks made of drums. Writes a line for each wrong answer, and a last line with the
- * counts. */
+ * session, runs that stop for lost digits, calls that are refused at their entry, and decks made of drums. Writes a line for each wrong
+ * answer, and a last line with the counts. */
 #include "l1.h"
 
 int printf(const char *format, ...);
@@ -22,31 +22,71 @@ static void expect(const char *what, uint64_t number, uint64_t value, uint64_t m
 #define TWO 2000000050ul
 #define THREE 3000000050ul
 
+typedef struct l1_sum sum_of(uint64_t a, uint64_t b);
 typedef struct l1_word of_two(uint64_t a, uint64_t b);
 typedef struct l1_word of_one(uint64_t b);
+
+static const struct {
+    const char *what;
+    sum_of *call;
+    uint64_t a, b, number, word, lost;
+} sums[] = {
+    {"P1, 1 + 1", l1_add, ONE, ONE, 0, TWO, 0},
+    {"P2, 1 - 1", l1_sub, ONE, ONE, 0, 0, 0},
+    {"P5, a sum that carries", l1_add, 9999999950, 5000000042, 0, 1000000051, 0},
+    {"P6, a sum that carries out of range", l1_add, 9999999999, 5000000091, 27, 0, 0},
+
+    {"0 + 0", l1_add, 0, 0, 0, 0, 0},
+    {"0 - 0", l1_sub, 0, 0, 0, 0, 0},
+    {"0 + 3", l1_add, 0, THREE, 0, THREE, 0},
+    {"3 - 0", l1_sub, THREE, 0, 0, THREE, 0},
+    {"1 + -1", l1_add, ONE, MINUS + ONE, 0, 0, 0},
+    {"-1 + -1", l1_add, MINUS + ONE, MINUS + ONE, 0, MINUS + TWO, 0},
+    {"0 - 1", l1_sub, 0, ONE, 0, MINUS + ONE, 0},
+    {"1 - -1", l1_sub, ONE, MINUS + ONE, 0, TWO, 0},
+    {"1 - 3", l1_sub, ONE, THREE, 0, MINUS + TWO, 0},
+
+    {"1 - 0.9", l1_sub, ONE, 9000000049, 0, 1000000049, 1},
+    {"1 - 0.99", l1_sub, ONE, 9900000049, 0, 1000000048, 2},
+    {"1 - 0.999", l1_sub, ONE, 9990000049, 0, 1000000047, 3},
+    {"0.999 - 1", l1_sub, 9990000049, ONE, 0, MINUS + 1000000047, 3},
+    {"-0.999 + 1", l1_add, MINUS + 9990000049, ONE, 0, 1000000047, 3},
+    {"1 + 0.999", l1_add, ONE, 9990000049, 0, 1999000050, 0},
+    {"1.2345678 - 1.2345600", l1_sub, 1234567850, 1234560050, 0, 7800000044, 6},
+    {"-1.2345678 - -1.2345600", l1_sub, MINUS + 1234567850, MINUS + 1234560050, 0, MINUS + 7800000044, 6},
+    {"1.2345678 - -1.2345600", l1_sub, 1234567850, MINUS + 1234560050, 0, 2469127850, 0},
+    {"the last digit of eight is left", l1_add, 1000000150, MINUS + ONE, 0, 1000000043, 7},
+    {"the last digit of nine is left", l1_sub, ONE, 9999999949, 0, 1000000042, 8},
+    {"equals, with the highest exponent", l1_sub, 1234567899, 1234567899, 0, 0, 0},
+    {"9.9999999 - 9", l1_sub, 9999999950, 9000000050, 0, 9999999049, 1},
+    {"a sum that rises", l1_add, 9999999950, 9999999950, 0, 2000000051, 0},
+    {"a difference at the lowest exponent", l1_sub, 1234567806, 1234560006, 0, 7800000000, 6},
+    {"a difference just below it", l1_sub, 1234567805, 1234560005, 27, 0, 0},
+
+    {"half a unit below one", l1_sub, ONE, 5000000041, 0, ONE, 0},
+    {"a little more below one", l1_sub, ONE, 5000000141, 0, 9999999949, 1},
+    {"a little less than P6", l1_add, 9999999999, 4999999991, 0, 9999999999, 0},
+    {"an operand far below the other", l1_add, 1000000099, 9999999900, 0, 1000000099, 0},
+    {"a difference below the range", l1_sub, 1000000100, 1000000000, 27, 0, 0},
+
+    {"minus zero first", l1_add, MINUS, ONE, 24, 0, 0},
+    {"minus zero second", l1_sub, ONE, MINUS, 24, 0, 0},
+    {"the largest word", l1_sub, 19999999999, 19999999999, 0, 0, 0},
+    {"above the largest word", l1_add, 20000000000, ONE, 24, 0, 0},
+    {"one in two signs", l1_add, 2 * MINUS + ONE, ONE, 24, 0, 0},
+};
 
 static const struct {
     const char *what;
     of_two *call;
     uint64_t a, b, number, word;
 } twos[] = {
-    {"P1, 1 + 1", l1_add, ONE, ONE, 0, TWO},
-    {"P2, 1 - 1", l1_sub, ONE, ONE, 0, 0},
     {"P3, 1 / 3", l1_div, ONE, THREE, 0, 3333333349},
     {"P4, 2 / 3", l1_div, TWO, THREE, 0, 6666666749},
-    {"P5, a sum that carries", l1_add, 9999999950, 5000000042, 0, 1000000051},
-    {"P6, a sum that carries out of range", l1_add, 9999999999, 5000000091, 27, 0},
     {"P7, a product below the range", l1_mpy, 1000000000, 1000000049, 27, 0},
     {"P8, 0 / 0", l1_div, 0, 0, 25, 0},
     {"P9, code 5 on 2 and 3", l1_ngmpy, TWO, THREE, 0, MINUS + 6000000050},
 
-    {"0 + 0", l1_add, 0, 0, 0, 0},
-    {"0 + 3", l1_add, 0, THREE, 0, THREE},
-    {"1 + -1", l1_add, ONE, MINUS + ONE, 0, 0},
-    {"-1 + -1", l1_add, MINUS + ONE, MINUS + ONE, 0, MINUS + TWO},
-    {"0 - 1", l1_sub, 0, ONE, 0, MINUS + ONE},
-    {"1 - -1", l1_sub, ONE, MINUS + ONE, 0, TWO},
-    {"1 - 3", l1_sub, ONE, THREE, 0, MINUS + TWO},
     {"0 times -1", l1_mpy, 0, MINUS + ONE, 0, 0},
     {"code 5 on 0 and 1", l1_ngmpy, 0, ONE, 0, 0},
     {"code 5 on -2 and 3", l1_ngmpy, MINUS + TWO, THREE, 0, 6000000050},
@@ -57,26 +97,16 @@ static const struct {
 
     {"a product's half, upward", l1_mpy, 1000000150, 1500000050, 0, 1500000250},
     {"a product's half, downward", l1_mpy, MINUS + 1000000150, 1500000050, 0, MINUS + 1500000250},
-    {"half a unit below one", l1_sub, ONE, 5000000041, 0, ONE},
-    {"a little more below one", l1_sub, ONE, 5000000141, 0, 9999999949},
-    {"a little less than P6", l1_add, 9999999999, 4999999991, 0, 9999999999},
-    {"an operand far below the other", l1_add, 1000000099, 9999999900, 0, 1000000099},
     {"in range by rounding", l1_mpy, 1000000100, 9999999049, 0, 1000000000},
     {"the lowest quotient", l1_div, 1000000000, 1000000050, 0, 1000000000},
     {"a quotient below the range", l1_div, 1000000000, 1000000051, 27, 0},
     {"a quotient above the range", l1_div, 1000000099, 1000000049, 27, 0},
     {"a product above the range", l1_ngmpy, 9999999999, 9999999999, 27, 0},
-    {"a difference below the range", l1_sub, 1000000100, 1000000000, 27, 0},
 
-    {"minus zero first", l1_add, MINUS, ONE, 24, 0},
-    {"minus zero second", l1_sub, ONE, MINUS, 24, 0},
     {"a first digit of zero", l1_mpy, 999999999, ONE, 24, 0},
     {"a first digit of zero, minus", l1_ngmpy, ONE, MINUS + 999999999, 24, 0},
     {"the number before zero divisor", l1_div, 1, 0, 24, 0},
-    {"the largest word", l1_sub, 19999999999, 19999999999, 0, 0},
-    {"above the largest word", l1_add, 20000000000, ONE, 24, 0},
     {"above the largest word, second", l1_mpy, ONE, 20000000000, 24, 0},
-    {"one in two signs", l1_add, 2 * MINUS + ONE, ONE, 24, 0},
     {"the largest of 64 bits", l1_div, ONE, 18446744073709551615ul, 24, 0},
 };
 
@@ -168,7 +198,7 @@ static void long_decks(void)
 /* ---- load and run. Cells that no card names are foreign, and hold numbers that are no words. */
 
 #define CELLS 1000
-#define ROOM 64
+#define ROOM 160
 #define STATE 9
 #define FOREIGN 18446744073709551615ul
 #define UNTOUCHED 0xA5
@@ -301,6 +331,60 @@ static void switches(void)
     expect_ended("a budget of a million", r, 12, 0, 0, 0, 0);
     r = run(paused, CELLS, STATE, ROOM, 0, 0);
     expect_ended("no budget", r, 2, 0, 0, 0, 0);
+}
+
+/* A deck of one order on the numbers in 200 and 201, and behind it a stop that shows cell 202. */
+#define NEAR(order, a, b) "20000101" order "+0000202000007" "20000200" a b "007" "T101007"
+#define SIX_GONE NEAR("+2200201202", "+1234567850", "+1234560050")
+
+/* Sums that lose their digits, with the switch on STOP and on RUN. */
+static void losses(void)
+{
+    static const struct {
+        const char *what, *deck;
+        uint64_t budget, stop, number, count, shown, location;
+    } all[] = {
+        {"six digits gone", SIX_GONE, 9, 1, 3, 1, 7800000044, 102},
+        {"by the last order of the budget", SIX_GONE, 1, 1, 3, 1, 7800000044, 102},
+        {"with no budget", SIX_GONE, 0, 1, 2, 0, 0, 101},
+        {"a switch of more than 32 bits", SIX_GONE, 9, 4294967296ul, 3, 1, 7800000044, 102},
+        {"on RUN", SIX_GONE, 9, 0, 0, 2, 7800000044, 102},
+        {"on RUN, with a budget of one", SIX_GONE, 1, 0, 2, 1, 0, 102},
+        {"three digits gone in a sum", NEAR("+1200201202", "-9990000049", "+1000000050"), 9, 1, 3, 1, 1000000047, 102},
+        {"a result below zero", NEAR("+2201200202", "+1000000050", "+9990000049"), 9, 1, 3, 1, MINUS + 1000000047, 102},
+        {"two digits gone", NEAR("+2200201202", "+1000000050", "+9900000049"), 9, 1, 0, 2, 1000000048, 102},
+        {"nothing left", NEAR("+2200201202", "+1234567850", "+1234567850"), 9, 1, 0, 2, 0, 102},
+        {"a product", NEAR("+3200201202", "+1000000040", "+1000000040"), 9, 1, 0, 2, 1000000030, 102},
+        {"into 000 alone", NEAR("+2200201000", "+1234567850", "+1234560050"), 9, 1, 3, 1, 7800000044, 102},
+        {"over the order itself", NEAR("+2200201101", "+1234567850", "+1234560050"), 9, 1, 3, 1, 7800000044, 102},
+        {"at the lowest exponent", NEAR("+2200201202", "+1234567806", "+1234560006"), 9, 1, 3, 1, 7800000000, 102},
+        {"just below it", NEAR("+2200201202", "+1234567805", "+1234560005"), 9, 1, 27, 0, 0, 101},
+        {"at 999", "10000999+2200201202007" "20000200+1234567850+1234560050007" "T999007", 9, 1, 3, 1, 7800000044, 1000},
+    };
+    static const char *const what = "a traced run that stops for lost digits";
+    static const uint64_t ended[STATE] = {102, 0, 0, 0, 1, 7, 73, 1, 1};
+    struct l1_ended r;
+    size_t i;
+
+    for (i = 0; i < COUNT(all); i++) {
+        clear();
+        load(all[i].deck, CELLS, STATE, 0);
+        r = run(all[i].deck, CELLS, STATE, ROOM, all[i].budget, all[i].stop);
+        expect_ended(all[i].what, r, all[i].number, 0, all[i].count, all[i].shown, 0);
+        expect(all[i].what, 0, state[0], 0, all[i].location);
+        if (all[i].number == 3)
+            expect(all[i].what, marks[0], drum[0], 1, all[i].shown);
+    }
+    clear();
+    load(SIX_GONE, CELLS, STATE, 1);
+    r = run(SIX_GONE, CELLS, STATE, ROOM, 9, 1);
+    expect_ended(what, r, 3, 0, 1, 7800000044, 77);
+    expect_out(what, "X0001101+2200201202+2200201202+0000000000+1234567850+1234560050+0000000000007");
+    expect_state(what, ended);
+    expect(what, marks[202], drum[202], 1, 7800000044);
+    r = run(SIX_GONE, CELLS, STATE, ROOM, 9, 1);
+    expect_ended("the run that goes on", r, 0, 0, 1, 7800000044, 77);
+    expect_out("the run that goes on", "X0002102+0000202000+0000202000+0000000000+0000000000+7800000044+7800000044007");
 }
 
 /* Check 10 before 11 before 12, in both calls, with nothing changed. */
@@ -503,6 +587,11 @@ int main(void)
 {
     size_t i;
 
+    for (i = 0; i < COUNT(sums); i++) {
+        struct l1_sum r = sums[i].call(sums[i].a, sums[i].b);
+        expect(sums[i].what, r.number, r.word, sums[i].number, sums[i].word);
+        expect(sums[i].what, r.number, r.lost, sums[i].number, sums[i].lost);
+    }
     for (i = 0; i < COUNT(twos); i++) {
         struct l1_word r = twos[i].call(twos[i].a, twos[i].b);
         expect(twos[i].what, r.number, r.word, twos[i].number, twos[i].word);
@@ -518,6 +607,7 @@ int main(void)
     long_decks();
     paper_session();
     switches();
+    losses();
     refusals();
     makes();
     printf("panel: %d cases, %d wrong\n", tried, wrong);

@@ -77,7 +77,8 @@ static void put(uint64_t number)
 
 static void numbers(void)
 {
-    static struct l1_word (*const twos[])(uint64_t, uint64_t) = {l1_add, l1_sub, l1_mpy, l1_div, l1_ngmpy};
+    static struct l1_sum (*const sums[])(uint64_t, uint64_t) = {l1_add, l1_sub};
+    static struct l1_word (*const twos[])(uint64_t, uint64_t) = {l1_mpy, l1_div, l1_ngmpy};
     static struct l1_word (*const ones[])(uint64_t) = {l1_sqrt, l1_abs};
     struct {
         uint64_t operation, a, b;
@@ -85,8 +86,15 @@ static void numbers(void)
 
     while (take(&asked, sizeof asked)) {
         struct l1_word r;
+        if (asked.operation < 2) {
+            struct l1_sum s = sums[asked.operation](asked.a, asked.b);
+            put(s.number);
+            put(s.word);
+            put(s.lost);
+            continue;
+        }
         if (asked.operation < 5)
-            r = twos[asked.operation](asked.a, asked.b);
+            r = twos[asked.operation - 2](asked.a, asked.b);
         else if (asked.operation < 7)
             r = ones[asked.operation - 5](asked.a);
         else

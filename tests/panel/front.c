@@ -67,16 +67,17 @@ static char sign_of(uint64_t number)
 
 static const struct {
     const char *name;
+    struct l1_sum (*sum)(uint64_t a, uint64_t b);
     struct l1_word (*of_two)(uint64_t a, uint64_t b);
     struct l1_word (*of_one)(uint64_t b);
 } operations[] = {
-    {"add", l1_add, 0},
-    {"sub", l1_sub, 0},
-    {"mpy", l1_mpy, 0},
-    {"div", l1_div, 0},
-    {"ngmpy", l1_ngmpy, 0},
-    {"sqrt", 0, l1_sqrt},
-    {"abs", 0, l1_abs},
+    {"add", l1_add, 0, 0},
+    {"sub", l1_sub, 0, 0},
+    {"mpy", 0, l1_mpy, 0},
+    {"div", 0, l1_div, 0},
+    {"ngmpy", 0, l1_ngmpy, 0},
+    {"sqrt", 0, 0, l1_sqrt},
+    {"abs", 0, 0, l1_abs},
 };
 
 static const char *reason(uint64_t number)
@@ -93,29 +94,38 @@ static const char *reason(uint64_t number)
     }
 }
 
-/* One operation on the words that are typed behind its name. */
+/* One operation on the words that are typed behind its name. Where digits went in a sum, how many stands behind it. */
 static int reckon(size_t which, char **typed, int count)
 {
-    uint64_t a, b;
+    uint64_t a, b, lost = 0;
     struct l1_word r;
 
-    if (operations[which].of_two) {
-        if (count != 2)
-            return wrong("two words are wanted behind", operations[which].name);
-        if (!word(typed[0], &a) || !word(typed[1], &b))
-            return 0;
-        r = operations[which].of_two(a, b);
-    } else {
+    if (operations[which].of_one) {
         if (count != 1)
             return wrong("one word is wanted behind", operations[which].name);
         if (!word(typed[0], &b))
             return 0;
         r = operations[which].of_one(b);
+    } else {
+        if (count != 2)
+            return wrong("two words are wanted behind", operations[which].name);
+        if (!word(typed[0], &a) || !word(typed[1], &b))
+            return 0;
+        if (operations[which].sum) {
+            struct l1_sum s = operations[which].sum(a, b);
+            r = (struct l1_word){s.number, s.word};
+            lost = s.lost;
+        } else {
+            r = operations[which].of_two(a, b);
+        }
     }
     if (r.number)
-        printf("%lu, %s\n", r.number, reason(r.number));
+        printf("%lu, %s", r.number, reason(r.number));
     else
-        printf("%c%010lu\n", sign_of(r.word), r.word % MINUS);
+        printf("%c%010lu", sign_of(r.word), r.word % MINUS);
+    if (lost)
+        printf(", digits lost: %lu", lost);
+    printf("\n");
     return 1;
 }
 

@@ -1,6 +1,13 @@
 /* A library behind the C face that answers every call with the one number ANSWER, and does nothing. */
 #include "l1.h"
 
+#define SUM(name)                                                                                                                      \
+    struct l1_sum name(uint64_t a, uint64_t b)                                                                                         \
+    {                                                                                                                                  \
+        (void)a, (void)b;                                                                                                              \
+        return (struct l1_sum){ANSWER, 0, 0};                                                                                          \
+    }
+
 #define OF_TWO(name)                                                                                                                   \
     struct l1_word name(uint64_t a, uint64_t b)                                                                                        \
     {                                                                                                                                  \
@@ -15,8 +22,8 @@
         return (struct l1_word){ANSWER, 0};                                                                                            \
     }
 
-OF_TWO(l1_add)
-OF_TWO(l1_sub)
+SUM(l1_add)
+SUM(l1_sub)
 OF_TWO(l1_mpy)
 OF_TWO(l1_div)
 OF_TWO(l1_ngmpy)

@@ -7,19 +7,10 @@ static struct l1_made wrong_make(const uint64_t *drum, size_t cells, const uint8
 
 #define l1_make wrong_make
 #include "../panel/driver.c"
-
-char *getenv(const char *name);
+#include "fault.h"
 
 #define LAST 999
 #define LARGEST 19999999999ul
-
-static int has(const char *fault)
-{
-    static const char *named;
-    if (!named && !(named = getenv("L1_FAULT")))
-        named = "";
-    return !strcmp(named, fault);
-}
 
 static uint8_t cards[16384];
 static size_t cards_end;

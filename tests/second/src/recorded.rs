@@ -87,6 +87,8 @@ mod tests {
         assert_eq!(said(DECK, &["budget=1"]), "Z020102000001+0000000000");
         assert_eq!(said(DECK, &["budget=1000000"]), "12 0");
         assert_eq!(said(&DECK[..77], &["traced"]), "11 77");
+        let lost = DECK.replace("+2000000050", "-9990000049");
+        assert_eq!(said(&lost, &["stop"]), "Z030102000001+1000000047");
         assert!(choice(&["trace"]).is_none() && choice(&["budget=x"]).is_none());
     }
 }

@@ -27,13 +27,12 @@ const NONE: &str = " 0 differences,";
 
 /// How many answers, counted in numbers of eight bytes from the start, are spoiled one by one. In
 /// sessions these are all parts of the answers to a load and to the run behind it, in makes to a
-/// making and to the load behind it.
+/// making and to the load behind it, in numbers to a sum and to a difference.
 fn spoiled(kind: &str) -> usize {
     match kind {
         "sessions" => (2 + BLOCK) + (6 + BLOCK),
         "makes" => MADE + (2 + BLOCK),
-        "decks" => 6,
-        _ => 4,
+        _ => 6,
     }
 }
 

@@ -34,6 +34,16 @@ pub fn sub(x: Number, y: Number) -> Result<Number, OutOfRange> {
     add(x, opposite(y))
 }
 
+/// How many digits went when a sum or a difference of the first two was the third: the larger
+/// exponent of the two less the result's. None went where that is negative, nor where one of the
+/// three is zero.
+pub fn lost(x: Number, y: Number, result: Number) -> u64 {
+    if x.is_zero() || y.is_zero() || result.is_zero() {
+        return 0;
+    }
+    x.a.max(y.a).saturating_sub(result.a)
+}
+
 pub fn mpy(x: Number, y: Number) -> Result<Number, OutOfRange> {
     rounded(x.minus != y.minus, units(x).times(&units(y)), *power_of_ten(UNIT))
 }

@@ -135,7 +135,13 @@ fn orders(machine: &mut Machine, budget: u64) -> (u64, Reason, Word) {
     while count < budget {
         match machine.step() {
             Ok(None) => count += 1,
-            Ok(Some((reason, word))) => return (count + 1, reason, word),
+            Ok(Some((reason, word))) => {
+                if reason == Reason::DigitsLost {
+                    let (last, traced) = (count + 1 == budget, machine.state.traced_mode());
+                    (machine.witness)(Event::StoppedForLoss { last, traced });
+                }
+                return (count + 1, reason, word);
+            }
             Err(reason) => return (count, reason, Word::PLUS_ZERO),
         }
     }

@@ -1,5 +1,6 @@
 //! What a witness of the model is told, for counting what was covered.
 
+use super::operation::OfTwo;
 use super::order::Code;
 use super::stop::{Field, Reason};
 
@@ -56,6 +57,30 @@ pub enum Large {
     CountAbove1000,
 }
 
+/// What a sum or a difference comes to that loses digits.
+#[derive(Clone, Copy, Debug, PartialEq, Eq, PartialOrd, Ord)]
+pub enum Loss {
+    /// It stops, and three digits have gone.
+    JustThree,
+    /// It stops at 999, so that the next location is 1000.
+    At999,
+    /// It stops, and C is 000.
+    Into000,
+    /// It stops, and the result lies over the order itself.
+    OverItself,
+    /// It stops, and the result is the next order.
+    OverNext,
+    /// It does not stop with the switch on STOP: two digits have gone.
+    JustTwo,
+    /// Nor does it here: the result is zero, and no operand is.
+    AllGone,
+    /// It is refused with the switch on STOP: more than two digits go, but the result is below the
+    /// range.
+    BelowRange,
+    /// It does not stop with the switch on RUN, though more than two digits have gone.
+    OnRun,
+}
+
 #[derive(Clone, Copy, Debug, PartialEq, Eq, PartialOrd, Ord)]
 pub enum Event {
     Loaded {
@@ -95,6 +120,21 @@ pub enum Event {
     },
     BudgetUsed {
         zero: bool,
+    },
+    /// Told besides.
+    Lost {
+        loss: Loss,
+        operation: OfTwo,
+        tracing: Tracing,
+    },
+    /// Told besides; `last`: by the last order of the budget.
+    StoppedForLoss {
+        last: bool,
+        traced: bool,
+    },
+    /// Told besides, of a run that does orders behind one that was stopped for lost digits.
+    WentOnBehindLoss {
+        traced: bool,
     },
     /// Told besides.
     Large(Large),

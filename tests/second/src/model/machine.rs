@@ -1,8 +1,10 @@
 //! One order after another.
 
+use super::arithmetic::{lost, OutOfRange};
 use super::deck::Deck;
 use super::drum::Drum;
-use super::event::{Event, Large, Tracing, Way};
+use super::event::{Event, Large, Loss, Tracing, Way};
+use super::operation::lost_below;
 use super::order::{code, Code, Order};
 use super::orders::{plan, Effects, View};
 use super::state::State;
@@ -43,7 +45,9 @@ impl Machine<'_> {
             switch_on_stop: self.switch_on_stop,
             room: self.out.len() - self.written,
         };
-        match plan(code, order, &view) {
+        let planned = plan(code, order, &view);
+        self.tell_of_loss(code, order, &planned, tracing);
+        match planned {
             Ok(effects) => {
                 let (way, stop) = (effects.way, effects.stop);
                 let modified = order.word() != stored;
@@ -95,6 +99,46 @@ impl Machine<'_> {
         };
         for (_, large) in told.into_iter().filter(|(holds, _)| *holds) {
             (self.witness)(Event::Large(large));
+        }
+    }
+
+    /// What a sum comes to that is about to be done, or is refused.
+    fn tell_of_loss(
+        &mut self,
+        code: Code,
+        order: Order,
+        planned: &Result<Effects, Reason>,
+        tracing: Tracing,
+    ) {
+        let Code::OfTwo(operation) = code else { return };
+        let words = (self.drum.word(order.a), self.drum.word(order.b));
+        let (true, (Some(a), Some(b))) = (operation.is_sum(), words) else { return };
+        let (Some(x), Some(y)) = (a.number(), b.number()) else { return };
+        let location = self.state.location;
+        let told = match planned {
+            Ok(Effects { stores, stop, .. }) => {
+                let result = stores[0].1.number().expect("a sum is a number");
+                let lost = lost(x, y, result);
+                let all_gone = !x.is_zero() && !y.is_zero() && result.is_zero();
+                let (stops, on_stop) = (stop.is_some(), self.switch_on_stop);
+                vec![
+                    (stops && lost == 3, Loss::JustThree),
+                    (stops && location == 999, Loss::At999),
+                    (stops && order.c == 0, Loss::Into000),
+                    (stops && order.c == location, Loss::OverItself),
+                    (stops && order.c == location + 1, Loss::OverNext),
+                    (on_stop && lost == 2, Loss::JustTwo),
+                    (on_stop && all_gone, Loss::AllGone),
+                    (!on_stop && lost > 2, Loss::OnRun),
+                ]
+            }
+            Err(Reason::Range(OutOfRange::Below)) if self.switch_on_stop => {
+                vec![(lost_below(operation, a, b) > 2, Loss::BelowRange)]
+            }
+            Err(_) => return,
+        };
+        for (_, loss) in told.into_iter().filter(|(holds, _)| *holds) {
+            (self.witness)(Event::Lost { loss, operation, tracing });
         }
     }
 

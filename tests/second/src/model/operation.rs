@@ -14,6 +14,13 @@ pub enum OfTwo {
     Ngmpy,
 }
 
+impl OfTwo {
+    /// Whether it is told how many digits went.
+    pub fn is_sum(self) -> bool {
+        matches!(self, OfTwo::Add | OfTwo::Sub)
+    }
+}
+
 /// Codes 0 300 and 0 350.
 #[derive(Clone, Copy, Debug, PartialEq, Eq, PartialOrd, Ord)]
 pub enum OfOne {
@@ -21,9 +28,23 @@ pub enum OfOne {
     Abs,
 }
 
+/// What an operation gives.
+#[derive(Clone, Copy, Debug, PartialEq, Eq)]
+pub struct Reckoned {
+    pub word: Word,
+    /// How many digits went in a sum or a difference; no other operation tells of any.
+    pub lost: u64,
+}
+
+impl From<Number> for Reckoned {
+    fn from(result: Number) -> Reckoned {
+        Reckoned { word: result.word(), lost: 0 }
+    }
+}
+
 /// Both words must be numbers before anything else is judged; then a divisor must not be zero;
 /// the range comes last.
-pub fn of_two(operation: OfTwo, a: Word, b: Word) -> Result<Word, Reason> {
+pub fn of_two(operation: OfTwo, a: Word, b: Word) -> Result<Reckoned, Reason> {
     let x = a.number().ok_or(Reason::NotNumber(Field::A))?;
     let y = b.number().ok_or(Reason::NotNumber(Field::B))?;
     let result = match operation {
@@ -34,18 +55,26 @@ pub fn of_two(operation: OfTwo, a: Word, b: Word) -> Result<Word, Reason> {
         OfTwo::Div => exact::div(x, y)?,
         OfTwo::Ngmpy => exact::ngmpy(x, y)?,
     };
-    Ok(result.word())
+    let lost = if operation.is_sum() { exact::lost(x, y, result) } else { 0 };
+    Ok(Reckoned { lost, ..result.into() })
+}
+
+/// How many digits go in a sum or a difference of numbers that is below the range: as many as where
+/// both exponents are higher by fifty, and the result is in it.
+pub fn lost_below(operation: OfTwo, a: Word, b: Word) -> u64 {
+    let [a, b] = [a, b].map(|Word { minus, digits }| Word { minus, digits: digits + 50 });
+    of_two(operation, a, b).expect("a result of middling size").lost
 }
 
 /// The operand is the word at B. A word that is no number is told before a negative root.
-pub fn of_one(operation: OfOne, b: Word) -> Result<Word, Reason> {
+pub fn of_one(operation: OfOne, b: Word) -> Result<Reckoned, Reason> {
     let y: Number = b.number().ok_or(Reason::NotNumber(Field::B))?;
     let result = match operation {
         OfOne::Sqrt if y.minus => return Err(Reason::NegativeRoot),
         OfOne::Sqrt => exact::sqrt(y),
         OfOne::Abs => exact::abs(y),
     };
-    Ok(result.word())
+    Ok(result.into())
 }
 
 #[cfg(test)]
@@ -59,11 +88,11 @@ mod tests {
     }
 
     fn two(operation: OfTwo, a: &str, b: &str) -> Result<String, u64> {
-        of_two(operation, word(a), word(b)).map(Word::text).map_err(Reason::number)
+        of_two(operation, word(a), word(b)).map(|got| got.word.text()).map_err(Reason::number)
     }
 
     fn one(operation: OfOne, b: &str) -> Result<String, u64> {
-        of_one(operation, word(b)).map(Word::text).map_err(Reason::number)
+        of_one(operation, word(b)).map(|got| got.word.text()).map_err(Reason::number)
     }
 
     fn is(text: &str) -> Result<String, u64> {
@@ -98,6 +127,45 @@ mod tests {
         assert_eq!(two(Mpy, "+1000000100", "+9999999048"), Err(27));
         assert_eq!(two(Div, "+1000000000", "+1000000050"), is("+1000000000"));
         assert_eq!(two(Div, "+1000000000", "+1000000150"), Err(27));
+    }
+
+    fn lost(operation: OfTwo, a: &str, b: &str) -> (String, u64) {
+        let got = of_two(operation, word(a), word(b)).expect("a result");
+        (got.word.text(), got.lost)
+    }
+
+    fn loses(text: &str, lost: u64) -> (String, u64) {
+        (text.to_string(), lost)
+    }
+
+    #[test]
+    fn digits_that_go() {
+        assert_eq!(lost(Sub, "+1234567850", "+1234560050"), loses("+7800000044", 6));
+        assert_eq!(lost(Sub, "+1000000050", "+9900000049"), loses("+1000000048", 2));
+        assert_eq!(lost(Sub, "+1000000050", "+9990000049"), loses("+1000000047", 3));
+        assert_eq!(lost(Add, "-9990000049", "+1000000050"), loses("+1000000047", 3));
+        assert_eq!(lost(Sub, "+9999999949", "+1000000050"), loses("-1000000042", 8));
+        assert_eq!(lost(Add, "+1000000150", "-1000000050"), loses("+1000000043", 7));
+        // The exponents of the larger operand and of the result count, and not those of its digits.
+        assert_eq!(lost(Sub, "+9999999950", "+9000000050"), loses("+9999999049", 1));
+        assert_eq!(lost(Sub, "+9999999950", "+1000000050"), loses("+8999999950", 0));
+        assert_eq!(lost(Add, "+1000000050", "-1000000040"), loses("+1000000050", 0));
+        // None for sums, which rise, and where rounding takes the loss back.
+        assert_eq!(lost(Add, "+9999999950", "+9999999950"), loses("+2000000051", 0));
+        assert_eq!(lost(Sub, "+1234567850", "-1234560050"), loses("+2469127850", 0));
+        assert_eq!(lost(Sub, "+1000000050", "+5000000041"), loses("+1000000050", 0));
+        assert_eq!(lost(Sub, "+1000000050", "+5000000141"), loses("+9999999949", 1));
+        // None with a zero among the three.
+        assert_eq!(lost(Sub, "+1234567899", "+1234567899"), loses("+0000000000", 0));
+        assert_eq!(lost(Sub, "+0000000000", "+1000000050"), loses("-1000000050", 0));
+        assert_eq!(lost(Add, "+1000000050", "+0000000000"), loses("+1000000050", 0));
+        // Other operations tell of none.
+        assert_eq!(lost(Mpy, "+1000000040", "+1000000040"), loses("+1000000030", 0));
+        // At the low end of the range, and below it.
+        assert_eq!(lost(Sub, "+1000000107", "+1000000007"), loses("+1000000000", 7));
+        let (a, b) = (word("+1000000106"), word("+1000000006"));
+        assert_eq!(of_two(Sub, a, b), Err(Reason::Range(exact::OutOfRange::Below)));
+        assert_eq!(lost_below(Sub, a, b), 7);
     }
 
     #[test]

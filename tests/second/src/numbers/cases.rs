@@ -1,6 +1,7 @@
 //! The cases: one for each index of a stream.
 
 use super::operands::{any, any_number, digits, exponent, number, signed};
+use super::seen::{self, Seen, REACHABLE};
 use super::shapes;
 use crate::chance::Chance;
 use crate::model::word::MINUS;
@@ -21,12 +22,19 @@ pub const NGMPY: u64 = 4;
 pub const SQRT: u64 = 5;
 pub const ABS: u64 = 6;
 
+/// The two operations that tell how many digits went.
+pub const SUMS: [u64; 2] = [ADD, SUB];
+
+pub fn is_sum(operation: u64) -> bool {
+    SUMS.contains(&operation)
+}
+
 /// Marks this stream apart from the others of the same seed.
 const KIND: u64 = 1;
 
 /// The first cases of every stream: P1 to P10 of the paper's table, then others at a turn of a rule,
 /// so that each operation answers each of its numbers.
-const TABLE: [(u64, u64, u64); 28] = [
+const TABLE: [(u64, u64, u64); 31] = [
     (ADD, 1_000_000_050, 1_000_000_050),
     (SUB, 1_000_000_050, 1_000_000_050),
     (DIV, 1_000_000_050, 3_000_000_050),
@@ -42,6 +50,10 @@ const TABLE: [(u64, u64, u64); 28] = [
     (ADD, 9_999_999_999, 4_999_999_991),
     // Below the range by the loss of digits.
     (SUB, 1_000_000_100, 1_000_000_000),
+    // Six digits go, three, and two.
+    (SUB, 1_234_567_850, 1_234_560_050),
+    (SUB, 1_000_000_050, 9_990_000_049),
+    (ADD, 11_000_000_050, 9_900_000_049),
     // Half a unit below a power of ten.
     (SUB, 1_000_000_050, 5_000_000_041),
     (SUB, 1_000_000_050, 5_000_000_141),
@@ -61,6 +73,9 @@ const TABLE: [(u64, u64, u64); 28] = [
     (ABS, 2 * MINUS + 1_000_000_050, 0),
 ];
 
+/// Behind these come sums of each kind and differences of each kind.
+const OF_EACH_KIND: usize = SUMS.len() * REACHABLE.len();
+
 /// How often each operation is drawn, in hundredths.
 const SHARES: [(u64, u64); 7] =
     [(ADD, 22), (SUB, 22), (MPY, 16), (DIV, 18), (NGMPY, 6), (SQRT, 12), (ABS, 4)];
@@ -70,9 +85,23 @@ pub fn case(seed: u64, index: u64) -> Case {
         return Case { operation, a, b };
     }
     let chance = &mut Chance::of_case(seed, KIND, index);
+    let turn = index as usize - TABLE.len();
+    if turn < OF_EACH_KIND {
+        return of_kind(SUMS[turn % SUMS.len()], REACHABLE[turn / SUMS.len()], chance);
+    }
     let operation = drawn(chance);
     let (a, b) = operands(operation, chance);
     Case { operation, a, b }
+}
+
+fn of_kind(operation: u64, kind: Seen, chance: &mut Chance) -> Case {
+    loop {
+        let (a, b) = sum_operands(operation, chance);
+        let case = Case { operation, a, b };
+        if seen::seen(case).contains(&kind) {
+            return case;
+        }
+    }
 }
 
 fn drawn(chance: &mut Chance) -> u64 {
@@ -99,14 +128,16 @@ pub fn operands(operation: u64, chance: &mut Chance) -> (u64, u64) {
 
 fn sum_operands(operation: u64, chance: &mut Chance) -> (u64, u64) {
     let subtract = operation == SUB;
-    match chance.below(9) {
+    match chance.below(14) {
         0 => (any_number(chance), any_number(chance)),
         1 | 2 => shapes::close_exponents(chance),
         3 => shapes::far_exponents(chance),
         4 | 5 => shapes::tie_of_sum(subtract, chance),
         6 => shapes::carry(subtract, chance),
         7 => shapes::just_below_a_power(subtract, chance),
-        _ => shapes::cancellation(subtract, chance),
+        8 => shapes::cancellation(subtract, chance),
+        9 => shapes::with_zero(chance),
+        _ => shapes::near_equals(subtract, chance),
     }
 }
 

@@ -3,14 +3,15 @@
 mod cases;
 mod judge;
 mod operands;
+mod seen;
 mod shapes;
 
 use crate::chance::Chance;
 use crate::files::{Reading, Writing};
-use crate::model::operation::{of_one, of_two, OfOne, OfTwo};
+use crate::model::operation::{of_one, of_two, OfOne, OfTwo, Reckoned};
 use crate::model::stop::{Field, Reason};
 use crate::model::word::Word;
-use cases::Case;
+use cases::{is_sum, Case};
 
 pub use judge::judge;
 pub use operands::{any_number, stranger};
@@ -18,16 +19,22 @@ pub use operands::{any_number, stranger};
 /// The operations by their number in a case.
 const NAMES: [&str; 7] = ["add", "sub", "mpy", "div", "ngmpy", "sqrt", "abs"];
 
-/// The answer of the C calls: 0 and the word, or the stop number and 0. An operand that is no word
-/// is no number either.
-fn answer(case: Case) -> (u64, u64) {
-    match outcome(case) {
-        Ok(word) => (0, word.cell()),
-        Err(reason) => (reason.number(), 0),
+/// The answer of the C calls: 0 and the word, or the stop number and 0; behind that, of sums and
+/// differences, how many digits went.
+fn answer(case: Case) -> Vec<u64> {
+    let (number, word, lost) = match outcome(case) {
+        Ok(Reckoned { word, lost }) => (0, word.cell(), lost),
+        Err(reason) => (reason.number(), 0, 0),
+    };
+    if is_sum(case.operation) {
+        vec![number, word, lost]
+    } else {
+        vec![number, word]
     }
 }
 
-fn outcome(case: Case) -> Result<Word, Reason> {
+/// An operand that is no word is no number either.
+fn outcome(case: Case) -> Result<Reckoned, Reason> {
     let a = Word::of_cell(case.a).ok_or(Reason::NotNumber(Field::A))?;
     match case.operation {
         0 => of_two(OfTwo::Add, a, second(case)?),
@@ -49,7 +56,7 @@ fn second(case: Case) -> Result<Word, Reason> {
 pub fn operands_for(
     operation: u64,
     chance: &mut Chance,
-    wanted: impl Fn(Result<Word, Reason>) -> bool,
+    wanted: impl Fn(Result<Reckoned, Reason>) -> bool,
 ) -> (Word, Word) {
     loop {
         let (a, b) = cases::operands(operation, chance);
@@ -75,8 +82,7 @@ pub fn answer_all(cases: &str, answers: &str) {
     let mut out = Writing::create(answers);
     while !input.at_end() {
         let [operation, a, b] = input.some().expect("a whole case");
-        let (number, word) = answer(Case { operation, a, b });
-        out.numbers(&[number, word]);
+        out.numbers(&answer(Case { operation, a, b }));
     }
     out.finish();
 }

@@ -118,6 +118,55 @@ pub fn cancellation(subtract: bool, chance: &mut Chance) -> (u64, u64) {
     shuffled(chance, x, y)
 }
 
+/// Operands whose difference loses just so many digits: 1 to 7 where they have one exponent, 1 to 8
+/// where theirs are one apart; or equal ones, for which 0 stands. The difference is often at the lowest
+/// exponent or below it. Now and then the operands are added up.
+pub fn near_equals(subtract: bool, chance: &mut Chance) -> (u64, u64) {
+    let lost = chance.pick(&[0, 1, 2, 2, 2, 3, 3, 3, 4, 5, 6, 7, 8]);
+    let apart = lost == 8 || lost > 0 && chance.percent(50);
+    let (m, n) = if apart { one_apart(lost, chance) } else { level(lost, chance) };
+    let high = match chance.below(6) {
+        0 => lost,
+        1 => lost.saturating_sub(1),
+        2 => chance.below(lost + 1),
+        _ => chance.below(100),
+    };
+    let high = high.max(apart as u64);
+    let (minus, added) = (chance.percent(50), chance.one_in(8));
+    let other = (minus == subtract) ^ added;
+    let (a, b) = (number(minus, m, high), number(other, n, high - apart as u64));
+    shuffled(chance, a, b)
+}
+
+/// So many digits, from 1 to 8: a power of ten, nines, or any.
+fn of_length(digits: u64, chance: &mut Chance) -> u64 {
+    let (least, most) = (power(digits - 1), power(digits) - 1);
+    chance.pick_or(&[least, most], least, most)
+}
+
+/// The digits of operands of one exponent. A difference of eight digits would lose none.
+fn level(lost: u64, chance: &mut Chance) -> (u64, u64) {
+    let difference = if lost == 0 { 0 } else { of_length(8 - lost, chance) };
+    let m = chance.between(LEAST + difference, MOST);
+    (m, m - difference)
+}
+
+/// The digits of operands one exponent apart, the larger first. Counted in units of the smaller, a
+/// difference of nine digits would lose none.
+fn one_apart(lost: u64, chance: &mut Chance) -> (u64, u64) {
+    let difference = of_length(9 - lost, chance);
+    let least = (LEAST + difference).div_ceil(10).max(LEAST);
+    let m = chance.between(least, (MOST + difference) / 10);
+    (m, 10 * m - difference)
+}
+
+/// Zero on either side, or on both.
+pub fn with_zero(chance: &mut Chance) -> (u64, u64) {
+    let (m, a) = (digits(chance), exponent(chance));
+    let other = signed(chance, m, a);
+    chance.pick(&[(0, other), (other, 0), (0, 0)])
+}
+
 /// Exponents that put a product at an end of the range, whatever its digits.
 pub fn product_at_the_edge(chance: &mut Chance, m: u64, n: u64) -> (u64, u64) {
     let sum = match chance.below(3) {

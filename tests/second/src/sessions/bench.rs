@@ -6,7 +6,7 @@ use crate::decks::UNHURT;
 use crate::model::calls::{load, run, Ended, Refusal, Run};
 use crate::model::event::Event;
 use crate::model::making::make;
-use crate::model::state::NAMES;
+use crate::model::state::{State, NAMES};
 use crate::model::stop::Reason;
 
 /// What every byte of the output holds before a run.
@@ -25,6 +25,8 @@ pub struct Bench {
     pub state: Vec<u64>,
     /// The deck that was made last.
     made: Vec<u8>,
+    /// The state is the one that a stop for lost digits has left.
+    behind_loss: bool,
 }
 
 /// What a call gave.
@@ -71,7 +73,7 @@ impl Bench {
             Message::Begin(begin) => {
                 let (cells, marks) = (begin.cells.all(), begin.marks.all());
                 let (state, made) = (begin.state.clone(), std::mem::take(&mut self.made));
-                *self = Bench { cells, marks, deck: Vec::new(), state, made };
+                *self = Bench { cells, marks, deck: Vec::new(), state, made, behind_loss: false };
                 None
             }
             Message::Deck(deck) => {
@@ -80,9 +82,11 @@ impl Bench {
             }
             Message::State(state) => {
                 self.state.clone_from(state);
+                self.behind_loss = false;
                 None
             }
             Message::Load { traced } => {
+                self.behind_loss = false;
                 let Bench { cells, marks, deck, state, .. } = self;
                 Some(Outcome::Load(load(cells, marks, deck, state, *traced != 0, witness)))
             }
@@ -109,6 +113,11 @@ impl Bench {
         let Bench { cells, marks, deck, state, .. } = self;
         let lent = Run { cells, marks, deck, out: &mut out, state, budget, switch_on_stop: stop };
         let ended = run(lent, witness);
+        if self.behind_loss && ended.count > 0 {
+            let state = State::of_numbers(&self.state).expect("the state of a run");
+            witness(Event::WentOnBehindLoss { traced: state.traced_mode() });
+        }
+        self.behind_loss = ended.reason == Reason::DigitsLost;
         Outcome::Run { ended, out }
     }
 

@@ -49,6 +49,18 @@ impl Coverage {
         for (number, times) in &self.numbers {
             println!("covered: answer {number:02}: {times}");
         }
+        for wanted in reach::LOSSES {
+            let [plain, off, on] = reach::TRACINGS.map(|state| {
+                self.times(|event| match event {
+                    Event::Lost { loss, tracing, .. } => loss == wanted && tracing == state,
+                    _ => false,
+                })
+            });
+            println!("covered: {wanted:?}: plain {plain}, tracing off {off}, on {on}");
+        }
+        for event in reach::of_loss_stops() {
+            println!("covered: {event:?}: {}", self.times(|other| other == event));
+        }
         for large in reach::LARGE {
             println!("covered: {large:?}: {}", self.times(|event| event == Event::Large(large)));
         }

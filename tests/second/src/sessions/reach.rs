@@ -3,7 +3,7 @@
 use crate::model::arithmetic::OutOfRange;
 use crate::model::card::CardFault;
 use crate::model::deck::Fault;
-use crate::model::event::{Before, Event, Large, Tracing, Way};
+use crate::model::event::{Before, Event, Large, Loss, Tracing, Way};
 use crate::model::operation::{OfOne, OfTwo};
 use crate::model::order::{Code, Second, BUILT};
 use crate::model::stop::{Above, Astray, Field, Length, Mark, Reason, Turn, FIELDS};
@@ -18,6 +18,7 @@ fn ways(code: Code) -> Vec<(Way, bool)> {
         Code::TrSgn => vec![(Way::ToB, false), (Way::ToC, false)],
         Code::TrExp | Code::Loop(_) => vec![(Way::ToC, false), (Way::On, false)],
         Code::Tr | Code::TrSubr => vec![(Way::ToC, false)],
+        Code::OfTwo(operation) if operation.is_sum() => vec![(Way::On, true), (Way::On, false)],
         _ => vec![(Way::On, false)],
     }
 }
@@ -88,6 +89,7 @@ pub fn of_orders() -> Vec<Event> {
         events.extend(early.into_iter().map(|reason| Event::Refused { reason, tracing }));
     }
     events.extend(sums());
+    events.extend(losses());
     events
 }
 
@@ -100,6 +102,40 @@ fn sums() -> Vec<Event> {
                 events.push(Event::SumRefused { code: built.code, field });
             }
         }
+    }
+    events
+}
+
+pub const LOSSES: [Loss; 9] = [
+    Loss::JustThree,
+    Loss::At999,
+    Loss::Into000,
+    Loss::OverItself,
+    Loss::OverNext,
+    Loss::JustTwo,
+    Loss::AllGone,
+    Loss::BelowRange,
+    Loss::OnRun,
+];
+
+/// What orders come to that lose digits.
+fn losses() -> Vec<Event> {
+    let mut events = Vec::new();
+    for tracing in TRACINGS {
+        for operation in [OfTwo::Add, OfTwo::Sub] {
+            events.extend(LOSSES.map(|loss| Event::Lost { loss, operation, tracing }));
+        }
+    }
+    events.extend(of_loss_stops());
+    events
+}
+
+/// What the stop for lost digits means for the run, and for the one behind it.
+pub fn of_loss_stops() -> Vec<Event> {
+    let mut events = Vec::new();
+    for traced in [false, true] {
+        events.extend([false, true].map(|last| Event::StoppedForLoss { last, traced }));
+        events.push(Event::WentOnBehindLoss { traced });
     }
     events
 }

@@ -1,6 +1,7 @@
 //! Worked sessions on the model.
 
 mod entry;
+mod loss;
 mod making;
 mod orders;
 mod paper;

@@ -2,6 +2,7 @@
 
 use super::block;
 use super::draft::Draft;
+use super::loss;
 use super::parts::{any_address, before, built, marked, not_built, result_cell, shown_cell};
 use super::parts::{strange_word, unmarked};
 use crate::chance::Chance;
@@ -20,16 +21,30 @@ pub struct Aimed {
     pub lead: Option<Word>,
     /// A deck of its own and where its reader stands.
     pub deck: Option<(String, u64)>,
-    pub switch_on_stop: bool,
+    /// None where it is the same either way.
+    pub switch_on_stop: Option<bool>,
     /// The loop box, where the aim depends on it.
     pub counts: Option<[u64; 3]>,
     /// The room that the order's own cards are to be given.
     pub room: Option<u64>,
+    /// Where the order is to lie; the cell before it is for one that leads to it.
+    pub location: Option<u64>,
+    /// How many orders the budget has behind it.
+    pub spare: Option<u64>,
 }
 
 impl Aimed {
     pub fn of(order: Order) -> Aimed {
-        Aimed { order, lead: None, deck: None, switch_on_stop: false, counts: None, room: None }
+        Aimed {
+            order,
+            lead: None,
+            deck: None,
+            switch_on_stop: None,
+            counts: None,
+            room: None,
+            location: None,
+            spare: None,
+        }
     }
 }
 
@@ -37,6 +52,13 @@ pub fn aim(event: Event, draft: &mut Draft, chance: &mut Chance) -> Aimed {
     match event {
         Event::Completed { code: Code::Loop(named), way, modified, .. } => {
             loop_aim(Code::Loop(named), named, way == Way::ToC, modified, chance)
+        }
+        Event::Completed { code: Code::OfTwo(operation), stopped, .. } if operation.is_sum() => {
+            loss::sum(operation, stopped, draft, chance)
+        }
+        Event::Lost { loss, operation, .. } => loss::aim(loss, operation, draft, chance),
+        Event::StoppedForLoss { .. } | Event::WentOnBehindLoss { .. } => {
+            loss::stopping(event, draft, chance)
         }
         Event::Completed { code, way, stopped, tracing, .. } => {
             completed(code, way, stopped, tracing != Tracing::Plain, draft, chance)
@@ -47,7 +69,7 @@ pub fn aim(event: Event, draft: &mut Draft, chance: &mut Chance) -> Aimed {
     }
 }
 
-fn number_of(operation: OfTwo) -> u64 {
+pub fn number_of(operation: OfTwo) -> u64 {
     operation as u64
 }
 
@@ -74,7 +96,8 @@ fn completed(
         }
         Code::CondStop | Code::UncStop => {
             let order = built(code, 0, shown_cell(draft, chance), any_address(chance));
-            Aimed { switch_on_stop: stopped, ..Aimed::of(order) }
+            let switch_on_stop = (code == Code::CondStop).then_some(stopped);
+            Aimed { switch_on_stop, ..Aimed::of(order) }
         }
         Code::TrSgn => {
             let negative = way == Way::ToC;
@@ -114,7 +137,12 @@ fn completed(
     }
 }
 
-fn of_two(operation: OfTwo, (a, b): (Word, Word), draft: &mut Draft, chance: &mut Chance) -> Aimed {
+pub fn of_two(
+    operation: OfTwo,
+    (a, b): (Word, Word),
+    draft: &mut Draft,
+    chance: &mut Chance,
+) -> Aimed {
     let through_000 = chance.one_in(6);
     let a_cell = if through_000 { 0 } else { marked(a, draft, chance) };
     let b_cell = if a == b && chance.percent(50) { a_cell } else { marked(b, draft, chance) };

@@ -74,7 +74,7 @@ impl Draft {
     }
 
     /// Whether so many cells from a start on were still free, and are now taken.
-    fn take(&mut self, start: u64, count: u64) -> bool {
+    pub fn take(&mut self, start: u64, count: u64) -> bool {
         let run = &mut self.taken[start as usize..(start + count) as usize];
         let free = run.iter().all(|taken| !taken);
         if free {

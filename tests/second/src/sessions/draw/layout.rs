@@ -40,8 +40,12 @@ impl Layout {
 
     /// The words that belong into the blocks, apart from the program.
     pub fn words(&self, chance: &mut Chance) -> Vec<(u64, Word)> {
-        let numbers = (self.numbers..).take(NUMBERS as usize).map(|cell| (cell, moderate(chance)));
-        let mut words: Vec<(u64, Word)> = numbers.collect();
+        let mut words: Vec<(u64, Word)> = Vec::new();
+        let mut last = moderate(chance);
+        for cell in self.numbers..self.numbers + NUMBERS {
+            last = if chance.one_in(4) { near(last, chance) } else { moderate(chance) };
+            words.push((cell, last));
+        }
         for cell in self.strangers..self.strangers + STRANGERS {
             let word = if chance.percent(50) { strange_word(chance) } else { any_word(chance) };
             words.push((cell, word));
@@ -121,6 +125,17 @@ impl Layout {
         let reader = deck.len() as u64;
         (deck + &self.inbox_cards(chance), reader)
     }
+}
+
+/// The same number but for its last digits, and now and then for its sign.
+fn near(word: Word, chance: &mut Chance) -> Word {
+    let number = word.number().expect("a moderate number");
+    if number.is_zero() {
+        return word;
+    }
+    let step = 10u64.pow(chance.between(1, 6) as u32);
+    let m = (number.m + chance.below(step)).min(99_999_999);
+    Number { minus: number.minus ^ chance.one_in(4), m, ..number }.word()
 }
 
 /// A number between a millionth and a million, so that sums and products stay in range for a while.

@@ -8,6 +8,7 @@ mod early;
 mod hostile;
 mod large;
 mod layout;
+mod loss;
 mod named;
 mod parts;
 mod probe;

@@ -3,6 +3,7 @@
 use super::aim::{aim, Aimed};
 use super::draft::Draft;
 use super::early::{refuse_early, sum_above_999};
+use super::loss;
 use super::parts::{before, built};
 use crate::chance::Chance;
 use crate::decks::build::Cards;
@@ -28,11 +29,14 @@ pub struct Probe {
     pub room: u64,
     pub deck: Option<(String, u64)>,
     pub switch_on_stop: bool,
+    /// How many orders the budget has behind these.
+    pub spare: u64,
 }
 
 /// A session with one probe for each of the events.
 pub fn session(events: &[Event], chance: &mut Chance) -> Vec<Message> {
     let draft = &mut Draft::new(chance);
+    loss::keep_999(events, draft);
     let probes: Vec<Probe> = events.iter().map(|&event| laid_out(event, draft, chance)).collect();
     draft.begin(State::default(), chance);
     let common = Cards::any(chance).bytes();
@@ -61,10 +65,9 @@ pub fn session(events: &[Event], chance: &mut Chance) -> Vec<Message> {
 /// Runs a probe, and often goes on with what it has left.
 fn play(probe: &Probe, draft: &mut Draft, chance: &mut Chance) {
     let stop = if probe.switch_on_stop { chance.pick(&[1, 2, u64::MAX]) } else { 0 };
-    let budget = probe.orders + chance.pick(&[0, 0, 1, 3]);
-    let ended = draft.run(probe.room, budget, stop);
+    let ended = draft.run(probe.room, probe.orders + probe.spare, stop);
     let again = match ended.reason {
-        Reason::NoRoomForTrace | Reason::NoRoomForPunch => true,
+        Reason::NoRoomForTrace | Reason::NoRoomForPunch | Reason::DigitsLost => true,
         Reason::UncStop | Reason::CondStop | Reason::BudgetUsed => chance.one_in(3),
         _ => chance.one_in(8),
     };
@@ -77,7 +80,11 @@ fn play(probe: &Probe, draft: &mut Draft, chance: &mut Chance) {
 fn laid_out(event: Event, draft: &mut Draft, chance: &mut Chance) -> Probe {
     let (tracing, modified) = match event {
         Event::Completed { tracing, modified, .. } => (tracing, modified),
-        Event::OrderRefused { tracing, .. } | Event::Refused { tracing, .. } => {
+        Event::OrderRefused { tracing, .. }
+        | Event::Refused { tracing, .. }
+        | Event::Lost { tracing, .. } => (tracing, chance.one_in(4)),
+        Event::StoppedForLoss { traced, .. } | Event::WentOnBehindLoss { traced } => {
+            let tracing = if traced { chance.pick(&TRACINGS[1..]) } else { Tracing::Plain };
             (tracing, chance.one_in(4))
         }
         Event::SumRefused { .. } => (chance.pick(&TRACINGS), false),
@@ -104,7 +111,10 @@ fn placed(
     chance: &mut Chance,
 ) -> Probe {
     let leading = aimed.lead.is_some() as u64;
-    let location = draft.free(leading + 1, chance);
+    let location = match aimed.location {
+        Some(own) => own - leading,
+        None => draft.free(leading + 1, chance),
+    };
     if let Some(word) = aimed.lead {
         let from = draft.free_word(word, chance);
         draft.put_order(location, built(Code::Move000, 0, from, 0));
@@ -120,7 +130,8 @@ fn placed(
         orders: leading + 1,
         room: cards + aimed.room.unwrap_or(slack),
         deck: aimed.deck,
-        switch_on_stop: aimed.switch_on_stop,
+        switch_on_stop: aimed.switch_on_stop.unwrap_or_else(|| chance.one_in(3)),
+        spare: aimed.spare.unwrap_or_else(|| chance.pick(&[0, 0, 1, 3])),
     }
 }
 

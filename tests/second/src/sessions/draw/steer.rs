@@ -29,11 +29,11 @@ pub fn steer(draft: &mut Draft, runs: u64, program: Range<u64>, chance: &mut Cha
     }
 }
 
-/// Whether the next run begins with the state as it is: always after 01 and 02, mostly after 22,
+/// Whether the next run begins with the state as it is: always after 01, 02 and 03, mostly after 22,
 /// where more room may come, and now and then after others, to see the same order tried again.
 fn may_go_on(ended: Ended, chance: &mut Chance) -> bool {
     match ended.reason {
-        Reason::CondStop | Reason::BudgetUsed => true,
+        Reason::CondStop | Reason::BudgetUsed | Reason::DigitsLost => true,
         Reason::NoRoomForTrace | Reason::NoRoomForPunch => chance.percent(80),
         _ => chance.one_in(8),
     }

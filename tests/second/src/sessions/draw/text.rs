@@ -26,7 +26,7 @@ impl Text {
     }
 
     fn part(&mut self, layout: &Layout, chance: &mut Chance) {
-        match chance.below(10) {
+        match chance.below(11) {
             0 => self.loop_over_numbers(layout, chance),
             1 => self.loop_that_copies(layout, chance),
             2 => self.loop_that_changes_an_order(layout, chance),
@@ -36,6 +36,7 @@ impl Text {
             6 => self.read_and_punch(layout),
             7 => self.trace_a_little(chance),
             8 => self.stop_and_go(layout, chance),
+            9 => self.add_and_take_away(layout, chance),
             _ => self.straight(layout, chance),
         }
     }
@@ -158,6 +159,13 @@ impl Text {
                 chance.pick(&[Code::StartTr, Code::StopTr, Code::StTrEras, Code::Noop, Code::Pch]);
             self.push(code, 0, 0, 0);
         }
+    }
+
+    /// A number is added to another, which is then taken away: of the smaller one some digits are left.
+    fn add_and_take_away(&mut self, layout: &Layout, chance: &mut Chance) {
+        let (a, b, sum) = (layout.number(chance), layout.number(chance), layout.hole(chance));
+        self.push(Code::OfTwo(OfTwo::Add), a, b, sum);
+        self.push(Code::OfTwo(OfTwo::Sub), sum, chance.pick(&[a, b]), layout.result(chance));
     }
 
     fn stop_and_go(&mut self, layout: &Layout, chance: &mut Chance) {
