@@ -60,8 +60,9 @@ pub fn reckon_at(
     let q = number::reckon(k, x, y);
     match q {
         Reckoned::Result(w) => {
+            let o = outcome_of(switches, k, x, y, w);
             store_result(drum, marks, row, c, w);
-            outcome_of(switches, k, x, y, w)
+            o
         }
         Reckoned::Refused(f) => Outcome::Undone(f),
     }

@@ -48,6 +48,10 @@ impl Coverage {
                 verdict.require(what, times(number), often_enough(count));
             }
         }
+        let of_sums = self.numbers.iter().filter(|(key, _)| is_sum(key.0));
+        let sums: u64 = of_sums.map(|(_, times)| times).sum();
+        println!("covered: sums and differences: {sums}");
+        verdict.require("sums and differences".to_string(), sums, count * 2 / 5);
         for operation in SUMS {
             let name = NAMES[operation as usize];
             let mut near_equals = 0;

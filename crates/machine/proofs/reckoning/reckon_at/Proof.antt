@@ -1,4 +1,4 @@
-use mathlib.Core.Path.{_≡_, sym, ap, ap₂, subst, _∙_}
+use mathlib.Core.Path.{_≡_, sym, ap₂, subst, _∙_}
 use Prim.Native.Nat.{ℕ}
 use Rattle.rules.specs.Drum.{wordAt}
 use lib.Dec.{ltb}
@@ -8,7 +8,7 @@ use Rattle.rules.specs.Orders.{reckonedBy, lossBy, stopsAt, resulted, reckoned}
 use Rattle.rules.specs.declared.Reckoning.{Reckoning}
 use Rattle.rules.specs.declared.Switches.{Switches}
 use Rattle.rules.specs.declared.Reckoned.{Reckoned}
-use Rattle.rules.specs.declared.Reckoned.the-variants.{Result, Refused}
+use Rattle.rules.specs.declared.Reckoned.the-variants.{Result}
 use mathlib.Core.List.{List}
 use Rattle.drum.specs.Held.{Holds}
 use Rattle.rules.specs.declared.Outcome.the-variants.{Undone}
@@ -59,18 +59,19 @@ store-result-requires c κs =
 
 returns : tie.Need-returns
 returns c =
-    λ i e f drum₀ out₀ out m h.
     let start : tie.Start = search in
     let r : tie.After-reckon = search in
     let q : tie.After-q = search in
+    let told : tie.After-outcome-of = search in
     let kept : tie.After-store-result = search in
     let a = start .args in
     let s = kept .store-result in
-    subst (λ (z : Reckoned). Did drum₀ out₀ (s .last .0) (s .last .1 .0) out (s .last .1 .1 .0) (c .outcome-of .result)
+    λ i e f drum₀ out₀ out m h.
+    subst (λ (z : Reckoned). Did drum₀ out₀ (s .last .0) (s .last .1 .0) out (s .last .1 .1 .0) (told .outcome-of .result)
     (reckoned (stopsAt i (lossBy (a .k) (wordAt (m .cells) (a .a)) (wordAt (m .cells) (a .b)) z)) m (a .c) z))
     (sym (q .q .given .1) ∙ of-cells r drum₀ m (h .memory))
     (record {
-      outcome-is = c .outcome-of .ensures ∙ stops-as i (a .switches) (a .k) _ e f (first-is r drum₀ m (h .memory)) (second-is r drum₀ m (h .memory));
+      outcome-is = told .outcome-of .ensures ∙ stops-as i (a .switches) (a .k) _ e f (first-is r drum₀ m (h .memory)) (second-is r drum₀ m (h .memory));
       shows = s .ensures drum₀ out₀ out m h .shows;
     })
 
@@ -93,8 +94,8 @@ reckon-at-spec =
     (λ c κs. search needs)
     (λ c κs. search needs)
     (λ c. search needs)
-    store-result-requires
     (λ c κs. search needs)
+    store-result-requires
     (λ c. search needs)
     (λ c. search needs)
     (λ c. search needs)

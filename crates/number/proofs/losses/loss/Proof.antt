@@ -1,6 +1,6 @@
 -- `number::loss` meets its contract: by the first zero of the three, or by the exponents. Assumes nothing.
 use mathlib.Core.Path.{_≡_, sym, _∙_}
-use mathlib.Core.Bool.{true, false}
+use mathlib.Core.Bool.{false}
 use native.Mathlib.Omega.{arith}
 use Rattle.rules.specs.Arithmetic.{valueIn, isZero}
 use borrow.Author.Needs.{needs}
