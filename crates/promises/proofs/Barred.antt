@@ -12,6 +12,8 @@ use Rattle.rules.specs.declared.Refusal.the-variants.{BadAddress, Unmarked, NoR
 use Rattle.rules.specs.declared.Stop.the-variants.{Unconditional, Conditional, Lost}
 use Rattle.rules.specs.declared.Outcome.{Outcome}
 use Rattle.rules.specs.declared.Outcome.the-variants.{GoesOn, Stops, Undone}
+use Rattle.rules.specs.declared.Fault.the-variants.{UnknownKind, SecondFirst, CutShort, BadByte, BadPlace}
+use Rattle.rules.specs.declared.DeckFault.{DeckFault}
 use Rattle.rules.specs.declared.DeckFault.the-variants.{TooLong, At, NoFirst}
 use Rattle.rules.specs.declared.Deck.{Deck}
 use Rattle.rules.specs.declared.Deck.the-variants.{Good, Faulty}
@@ -26,12 +28,22 @@ use Rattle.rules.proofs.Entered.{Entered}
 
 -- ---- 22
 
+bad-deck-not-full : (f : DeckFault) → isFull (NotRun (BadDeck f)) ≡ false
+bad-deck-not-full TooLong = refl
+bad-deck-not-full (At p UnknownKind b) = refl
+bad-deck-not-full (At p SecondFirst b) = refl
+bad-deck-not-full (At p CutShort b) = refl
+bad-deck-not-full (At p BadByte b) = refl
+bad-deck-not-full (At p BadPlace b) = refl
+bad-deck-not-full (NoFirst p) = refl
+
+bar-not-full : (b : Bar) → isFull (NotRun b) ≡ false
+bar-not-full BadDrum = refl
+bar-not-full (BadDeck f) = bad-deck-not-full f
+bar-not-full BadState = refl
+
 pub full-is : (e : Ending) → isFull e ≡ true → e ≡ Ran (Undone NoRoom)
-full-is (NotRun BadDrum) t = false-true t
-full-is (NotRun (BadDeck TooLong)) t = false-true t
-full-is (NotRun (BadDeck (At p f b))) t = false-true t
-full-is (NotRun (BadDeck (NoFirst p))) t = false-true t
-full-is (NotRun BadState) t = false-true t
+full-is (NotRun b) t = false-true (sym (bar-not-full b) ∙ t)
 full-is (Ran GoesOn) t = false-true t
 full-is (Ran (Stops Unconditional w)) t = false-true t
 full-is (Ran (Stops Conditional w)) t = false-true t
@@ -82,13 +94,6 @@ either-way c = by-fit (drumFits (length (c .drum)) (c .marks) (view (c .drum) (c
     by-fit : (t : Bool) → drumFits (length (c .drum)) (c .marks) (view (c .drum) (c .marks)) ≡ t → Entered c ⊎ Barred c
     by-fit true f = judged-deck c f (deckOf (c .deck)) refl
     by-fit false f = inr (BadDrum, λ out. rw f)
-
-bar-not-full : (b : Bar) → isFull (NotRun b) ≡ false
-bar-not-full BadDrum = refl
-bar-not-full (BadDeck TooLong) = refl
-bar-not-full (BadDeck (At p f b)) = refl
-bar-not-full (BadDeck (NoFirst p)) = refl
-bar-not-full BadState = refl
 
 pub barred-not-full : (c : RunCall) → Barred c → isFull (ran c .ending) ≡ false
 barred-not-full c h = ap (λ (x : RunResult). isFull (x .ending)) (h .1 (c .out)) ∙ bar-not-full (h .0)

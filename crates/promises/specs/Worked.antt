@@ -61,10 +61,10 @@ sessions =
     worked "30001101+1200201202+0410202202+000020200000720002200+1000000050+2000000050007T101007" false false 999999 21
     "Z220102000001+0000000000" ∷
     -- decks that no load takes: an unknown kind, none at all, a second first-order card, a last cell past 999
-    worked "?" false false 1 0 "11 0" ∷
-    worked "" false false 1 0 "11 0" ∷
-    worked "T001000T001000" false false 1 0 "11 7" ∷
-    worked "T00100020001999+0000000000+0000000000000" false false 1 0 "11 7" ∷
+    worked "?" false false 1 0 "13 0" ∷
+    worked "" false false 1 0 "18 0" ∷
+    worked "T001000T001000" false false 1 0 "17 7" ∷
+    worked "T00100020001999+0000000000+0000000000000" false false 1 0 "16 12" ∷
     -- the first order's cell is not owned; a cell that was never loaded is an operand
     worked "T001000" false false 1 0 "Z210001000000+0000000000" ∷
     worked "20001001+1002003004+1000000050000T001000" false false 9 0 "Z210001000000+0000000000" ∷

@@ -15,6 +15,7 @@ pub mod Fields
 pub mod Dues
 pub mod CardTrips
 pub mod Decks
+pub mod Faults
 pub mod Parts
 pub mod Results
 pub mod States

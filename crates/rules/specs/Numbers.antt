@@ -11,8 +11,7 @@ use Rattle.rules.specs.declared.Stop.{Stop}
 use Rattle.rules.specs.declared.Stop.the-variants.{Unconditional, Conditional, Lost}
 use Rattle.rules.specs.declared.Outcome.the-variants.{GoesOn, Stops, Undone}
 use Rattle.rules.specs.declared.Fault.{Fault}
-use Rattle.rules.specs.declared.Card.{Card}
-use Rattle.rules.specs.declared.Card.the-variants.{Data, First, Bad, End}
+use Rattle.rules.specs.declared.Fault.the-variants.{UnknownKind, SecondFirst, CutShort, BadByte, BadPlace}
 use Rattle.rules.specs.declared.DeckFault.{DeckFault}
 use Rattle.rules.specs.declared.DeckFault.the-variants.{TooLong, At, NoFirst}
 use Rattle.rules.specs.declared.Deck.{Deck}
@@ -89,26 +88,26 @@ triesAgain (Stops k w) = stays k
 triesAgain GoesOn = false
 triesAgain (Undone r) = true
 
--- What is at a place of a deck: 0 for a card, and for the deck's end. Every fault has the one number.
+-- what is wrong with a card
 abbrev pub faultNumber : Fault → ℕ
-faultNumber f = 11
+faultNumber UnknownKind = 13
+faultNumber CutShort = 14
+faultNumber BadByte = 15
+faultNumber BadPlace = 16
+faultNumber SecondFirst = 17
 
-abbrev pub cardNumber : Card → ℕ
-cardNumber (Data number location words problem size) = 0
-cardNumber (First order problem) = 0
-cardNumber (Bad f b) = faultNumber f
-cardNumber End = 0
-
--- A faulty deck. Every fault of a card is told at the card's kind byte.
+-- A faulty deck: one that is too long, one with a bad card, or one without a first-order card.
 abbrev pub deckNumber : DeckFault → ℕ
 deckNumber TooLong = 11
 deckNumber (At p f b) = faultNumber f
-deckNumber (NoFirst p) = 11
+deckNumber (NoFirst n) = 18
 
+-- Where it is told: at the longest length that a deck may have; at the offending byte, which is the kind byte for 13, 14 and 17, the one that
+-- is not due for 15 and the first of the field for 16; at the deck's length.
 abbrev pub deckPlace : DeckFault → ℕ
 deckPlace TooLong = 65536
-deckPlace (At p f b) = p
-deckPlace (NoFirst p) = p
+deckPlace (At p f b) = b
+deckPlace (NoFirst n) = n
 
 -- a deck as checked: 0 and 0 where it is good
 abbrev pub checkNumber : Deck → ℕ

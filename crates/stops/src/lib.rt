@@ -7,6 +7,7 @@ pub use counts::may_go_on;
 use rules::Bar;
 use rules::DeckFault;
 use rules::Ending;
+use rules::Fault;
 use rules::Loading;
 use rules::Making;
 use rules::Outcome;
@@ -14,7 +15,7 @@ use rules::Reckoned;
 use rules::Refusal;
 use rules::Stop;
 ghost use mathlib.Core.Path.{_≡_};
-ghost use Rattle.rules.specs.Numbers.{refusalNumber, reckonedNumber, reckonedWord, deckNumber, deckPlace, barNumber, barPlace};
+ghost use Rattle.rules.specs.Numbers.{refusalNumber, reckonedNumber, reckonedWord, faultNumber, deckNumber, deckPlace, barNumber, barPlace};
 ghost use Rattle.rules.specs.Numbers.{stopNumber, outcomeNumber, outcomeShown, endingNumber, endingPlace, endingShown, loadingNumber, loadingPlace, makingNumber, makingWritten};
 
 // Why an order, or arithmetic on words, is refused.
@@ -54,6 +55,19 @@ pub fn reckoned_word(x: Reckoned) -> u64
     }
 }
 
+// What is wrong with a card.
+fn fault_number(x: Fault) -> u64
+    ensures { λ r. ⌜ r ≡ faultNumber x ⌝ }
+{
+    match x {
+        Fault::UnknownKind => 13,
+        Fault::CutShort => 14,
+        Fault::BadByte => 15,
+        Fault::BadPlace => 16,
+        Fault::SecondFirst => 17,
+    }
+}
+
 // A faulty deck, and the place of its first fault.
 pub fn deck_number(x: DeckFault) -> u64
     ensures { λ r. ⌜ r ≡ deckNumber x ⌝ }
@@ -62,10 +76,10 @@ pub fn deck_number(x: DeckFault) -> u64
         DeckFault::TooLong => 11,
         DeckFault::At {
             card: _,
-            fault: _,
+            fault,
             byte: _,
-        } => 11,
-        DeckFault::NoFirst(_) => 11,
+        } => fault_number(fault),
+        DeckFault::NoFirst(_) => 18,
     }
 }
 
@@ -75,10 +89,10 @@ pub fn deck_place(x: DeckFault) -> u64
     match x {
         DeckFault::TooLong => 65536,
         DeckFault::At {
-            card,
+            card: _,
             fault: _,
-            byte: _,
-        } => card as u64,
+            byte,
+        } => byte as u64,
         DeckFault::NoFirst(p) => p as u64,
     }
 }
