@@ -21,3 +21,7 @@ pub mod Shapes
 pub mod SameDecks
 pub mod Making
 pub mod Fewest
+pub mod CardFaults
+pub mod DeckChecks
+pub mod DeckFound
+pub mod DeckFaults

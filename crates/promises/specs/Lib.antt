@@ -14,3 +14,4 @@ pub mod Making
 pub mod Prepared
 pub mod LossStops
 pub mod LostDigits
+pub mod DeckFaults
