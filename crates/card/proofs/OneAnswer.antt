@@ -13,6 +13,8 @@ use Rattle.card.proofs.lines.write_line.Kinds as write-line-kinds
 use Rattle.card.proofs.lines.write_line.Reads as write-line
 use Rattle.card.proofs.reading.card_at.Kinds as card-at-kinds
 use Rattle.card.proofs.reading.card_at.Reads as card-at
+use Rattle.card.proofs.fields.sign_due.Kinds as sign-due-kinds
+use Rattle.card.proofs.fields.sign_due.Reads as sign-due
 use Rattle.card.proofs.reading.first_bad.Kinds as first-bad-kinds
 use Rattle.card.proofs.reading.first_bad.Reads as first-bad
 use Rattle.card.proofs.reading.read_card.Kinds as read-card-kinds
@@ -63,3 +65,6 @@ one-stop κs a x y s t p q = (p .answer ∙ sym (q .answer), p .bytes ∙ sym (q
 
 pub one-line : Agrees 1 write-line-kinds.ps write-line-kinds.r write-line.Post (λ κs x y s t. (x ≡ y) × (now (s .0) ≡ now (t .0)))
 one-line κs a x y s t p q = (p .answer ∙ sym (q .answer), p .bytes ∙ sym (q .bytes))
+
+pub one-sign-due : OneResult 0 sign-due-kinds.ps sign-due-kinds.r sign-due.Post
+one-sign-due κs a x y s t p q = p ∙ sym q

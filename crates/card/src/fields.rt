@@ -43,7 +43,7 @@ pub(crate) fn form_of(kind: u8) -> Form
 }
 
 // Whether a sign is due at place o of a card of n words.
-fn sign_due(n: usize, o: usize) -> bool
+pub fn sign_due(n: usize, o: usize) -> bool
     ensures { λ r. ⌜ r ≡ signDue n o ⌝ }
 {
     if o < 8 {

@@ -12,6 +12,7 @@ mod writing;
 pub use cards::judge;
 pub use cards::may_stand;
 pub use checking::check_deck;
+pub use fields::sign_due;
 pub use lines::write_line;
 pub use reading::card_at;
 pub use reading::first_bad;

@@ -8,9 +8,9 @@ use lib.Dec.{eqb}
 use lib.ListN.{length, take, drop, length-append}
 use Rattle.rules.specs.Words.{pick, firstDigit, aIn}
 use Rattle.rules.specs.Bytes.{bytes}
-use Rattle.rules.specs.Cards.{digits, width, wordIn}
+use Rattle.rules.specs.Cards.{digits, wordIn}
 use Rattle.rules.specs.Codes.{codeIn}
-use Rattle.list.specs.Listing.{aText, orderLine, cellLine, headLine, cellLines, dataLines, firstLine, shownLines, traceLines, stopLine, badLine}
+use Rattle.list.specs.Listing.{aText, orderLine, cellLine, headLine, cellLines, dataLines, firstLine, shownLines, traceLines, stopLine}
 use Rattle.rules.proofs.Digits.{length-digits}
 use Rattle.rules.proofs.Fields.{length-word}
 use Rattle.bytes.proofs.Joins.{length-field}
@@ -88,7 +88,3 @@ length-stop d h =
     let f₃ : length (take 6 (drop 7 d)) ≡ 6 = length-field d 7 6 (omega arith) in
     let f₄ : length (take 11 (drop 13 d)) ≡ 11 = length-field d 13 11 (omega arith) in
     simp (length-append, f₁, f₂, f₃, f₄)
-
-pub length-bad : (place : ℕ) → length (badLine place) ≡ 20 + width 20 place
-unfolding badLine bytes
-length-bad place = simp (length-append, length-digits) (omega arith)

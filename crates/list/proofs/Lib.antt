@@ -5,3 +5,4 @@ pub mod CellLines
 pub mod Answers
 pub mod Examples
 pub mod OneAnswer
+pub mod LastLines

@@ -43,8 +43,19 @@ pub record ListingsHold : Type 0 where
       "  300  -6200201202  -           200 201 202" ∷
       "  301  +0452000000  ST TR ERAS      000 000" ∷
       "  302  +0111020300  LOOP ABC        020 300" ∷
-      "not a card at byte 44" ∷ [])
-  -- a card cut short, one whose last cell is past 999, and a letter where a digit is due
-  pub cut : Lists "Z000103000003+300000005" ("not a card at byte 0" ∷ [])
-  pub past : Lists "20001999+0000000000+0000000000000" ("not a card at byte 0" ∷ [])
-  pub letter : Lists "X0001101+1200201202+1200201202+0000000000+1000000050+2000000050+000000000O007" ("not a card at byte 0" ∷ [])
+      "card 2, its kind: 1 to 5 or T is due at byte 44, and the byte there is a mark ?" ∷ [])
+  -- a stop card cut short, a card whose last cell is past 999, and letters where digits are due in a trace card and a stop card
+  pub cut : Lists "Z000103000003+300000005" ("card 1, its word: a digit is due at byte 23, and the file ends there; the card begins at byte 0" ∷ [])
+  pub past : Lists "20001999+0000000000+0000000000000" ("card 1, its location: 001 to 998 is due at byte 5, and the digits there are 999" ∷ [])
+  pub letter : Lists "X0001101+1200201202+1200201202+0000000000+1000000050+2000000050+000000000O007"
+      ("card 1, its sixth word: a digit is due at byte 73, and the byte there is a letter O" ∷ [])
+  pub shown : Lists "Z0001O3000003+3000000050" ("card 1, its location: a digit is due at byte 5, and the byte there is a letter O" ∷ [])
+  -- a second first-order card; and files of data cards alone, and of none
+  pub second : Lists "T101007T101007" (
+      "first order 101     problem 007" ∷
+      "card 2, its kind: 1 to 5 is due at byte 7, and the byte there is a second T" ∷ [])
+  pub no-first : Lists "10001202+3000000050007" (
+      "card  0001  at 202  problem 007" ∷
+      "  202  +3000000050  MPY         000 000 050" ∷
+      "card 2, its kind: T is due at byte 22, and the file ends there with no first-order card" ∷ [])
+  pub none : Lists "" ("card 1, its kind: T is due at byte 0, and the file ends there with no first-order card" ∷ [])

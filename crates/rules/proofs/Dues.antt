@@ -29,6 +29,16 @@ pub bad-here : (n : ℕ) (d : List ℕ) (o k : ℕ) → isDue n o (getD d o 0) �
 unfolding badFrom
 bad-here n d o k e = ap (λ (t : Bool). pick t (badFrom n d (suc o) k) o) e
 
+-- it stays within the places that it is given
+pub bad-within : (n : ℕ) (d : List ℕ) (o k : ℕ) → badFrom n d o k ≤ o + k
+unfolding badFrom
+bad-within n d o zero = omega arith
+bad-within n d o (suc k) = by-test (isDue n o (getD d o 0)) (bad-within n d (suc o) k)
+  where
+    by-test : (t : Bool) → badFrom n d (suc o) k ≤ suc o + k → pick t (badFrom n d (suc o) k) o ≤ o + suc k
+    by-test true h = omega arith
+    by-test false h = omega arith
+
 -- it finds none where every byte is due, and only there
 pub none-bad : (n : ℕ) (d : List ℕ) (o k : ℕ) → AllDue n d o (o + k) → badFrom n d o k ≡ o + k
 unfolding badFrom

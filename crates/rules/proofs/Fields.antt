@@ -42,6 +42,16 @@ pub length-stop : (number location count shown : ℕ) → length (stopCard numbe
 unfolding stopCard
 length-stop number location count shown = simp (length-append, length-digits, length-word)
 
+-- a number is written with at most so many digits and one
+pub width-small : (n x : ℕ) → width n x ≤ n + 1
+unfolding width
+width-small zero x = omega arith
+width-small (suc n) x = by-test (ltb x 10) (width-small n (x / 10))
+  where
+    by-test : (t : Bool) → width n (x / 10) ≤ n + 1 → pick t 1 (suc (width n (x / 10))) ≤ suc n + 1
+    by-test true h = omega arith
+    by-test false h = omega arith
+
 pub length-line : (number place : ℕ) → length (refusalLine number place) ≡ width 20 number + 1 + width 20 place
 unfolding refusalLine
 length-line number place = simp (length-append, length-digits) (omega arith)

@@ -1,15 +1,14 @@
 -- A closing that may be written, in 64 bytes, and what is told of a call of make: all of it is at the start of the output. Assumes nothing.
-use Prim.Native.Nat.{ℕ, zero, suc, _+_, _/_, _≤_}
+use Prim.Native.Nat.{ℕ, _≤_}
 use mathlib.Core.Path.{_≡_, ap₂}
 use mathlib.Core.List.{List}
 use mathlib.Core.Bool.{Bool, true, false}
 use native.Mathlib.Omega.{arith}
 use borrow.Author.Tests.{le-leb}
-use lib.Dec.{ltb}
 use lib.ListN.{length, take, drop, length-take}
 use lib.Seq.{take-append-seam}
 use Rattle.rules.specs.Words.{pick, both}
-use Rattle.rules.specs.Cards.{width, refusalLine}
+use Rattle.rules.specs.Cards.{refusalLine}
 use Rattle.rules.specs.Numbers.{outcomeNumber, outcomeShown, barNumber, barPlace, makingNumber}
 use Rattle.rules.specs.Running.{over}
 use Rattle.rules.specs.Sheet.{closing, makeLine}
@@ -18,19 +17,10 @@ use Rattle.rules.specs.declared.Ending.{Ending}
 use Rattle.rules.specs.declared.Ending.the-variants.{Ran, NotRun}
 use Rattle.rules.specs.declared.Making.{Making}
 use Rattle.rules.specs.declared.Making.the-variants.{Made, UnfitDrum, UnfitNumber, Full}
-use Rattle.rules.proofs.Fields.{length-stop, length-line}
+use Rattle.rules.proofs.Fields.{length-stop, width-small, length-line}
 use Rattle.rules.proofs.Tests.{false-true}
 use Rattle.card.specs.Written.{fits}
 use Rattle.says.specs.Told.{mayClose, Closed}
-
-width-small : (n x : ℕ) → width n x ≤ n + 1
-unfolding width
-width-small zero x = omega arith
-width-small (suc n) x = by-test (ltb x 10) (width-small n (x / 10))
-  where
-    by-test : (t : Bool) → width n (x / 10) ≤ n + 1 → pick t 1 (suc (width n (x / 10))) ≤ suc n + 1
-    by-test true h = omega arith
-    by-test false h = omega arith
 
 -- a line has two numbers of at most 21 digits, and a Z card is 24 bytes long
 line-short : (number place : ℕ) → length (refusalLine number place) ≤ 64

@@ -4,14 +4,27 @@ ghost use mathlib.Core.Bool.{true};
 ghost use Prim.Native.Nat.{_-_, _≤_};
 ghost use lib.ListN.{length, drop};
 ghost use lib.Seq.{paste};
+ghost use Rattle.list.specs.Listing.{lastLine};
 ghost use Rattle.shows.specs.Parts.{mayBeCut, listedUpto};
+use crate::send;
 use crate::send_first;
 use disk::fill;
+use list::Seen;
+use list::is_second;
+use list::last_line;
+use list::none_seen;
+use list::with_kind;
 
-// Whether all lines of a part of a file were sent, and how many bytes its cards take.
+// How far a part of a file is listed: how many bytes its cards take, and what was seen up to there.
+pub struct Passed {
+    pub taken: usize,
+    pub seen: Seen,
+}
+
+// The same, and whether all lines were sent.
 pub struct Listed {
     pub sent: bool,
-    pub taken: usize,
+    pub passed: Passed,
 }
 
 // Whether so many bytes may be a card cut short.
@@ -24,47 +37,48 @@ fn may_be_cut(left: usize, last: bool) -> bool
     left < 77
 }
 
-// The lines of the cards at the start of a part. Where it is not the last of its file, a card that it may have cut short is left.
-fn list_cards(lines: &mut [u8], part: &[u8], last: bool) -> Listed
-    ensures { λ r. ⌜ r .taken ≤ length (now (part .entry)) ⌝ }
-    ensures { λ r. ⌜ (r .sent ≡ true → r .taken ≡ listedUpto (length (now (part .entry))) (now (part .entry)) last 0) ⌝ }
+// A part that is listed up to a place.
+fn upto(sent: bool, taken: usize, seen: Seen) -> Listed
+    ensures { λ r. ⌜ (r .sent ≡ sent) × (r .passed ≡ record { taken = taken; seen = seen }) ⌝ }
+{
+    let passed = Passed { taken, seen };
+    Listed { sent, passed }
+}
+
+// The lines of the cards at the start of a part, behind those that were seen. Where it is not the last of its file, a card that it may have
+// cut short is left.
+fn list_cards(lines: &mut [u8], part: &[u8], last: bool, before: Seen) -> Listed
+    ensures { λ r. ⌜ r .passed .taken ≤ length (now (part .entry)) ⌝ }
+    ensures { λ r. ⌜ (r .sent ≡ true → r .passed ≡ listedUpto (length (now (part .entry))) (now (part .entry)) last before 0) ⌝ }
 {
     let mut at: usize = 0;
+    let mut seen = before;
     while at < part.len() {
         let left = part.len() - at;
         if may_be_cut(left, last) {
-            return Listed {
-                sent: true,
-                taken: at,
-            };
+            return upto(true, at, seen);
         }
-        let x = list::write_lines(lines, &part[at..]);
+        let rest = &part[at..];
+        if is_second(seen, rest) {
+            return upto(true, at, seen);
+        }
+        let kind = rest[0];
+        let x = list::write_lines(lines, rest);
         let n = x.written;
         let size = x.taken;
         if size == 0 {
-            return Listed {
-                sent: true,
-                taken: at,
-            };
+            return upto(true, at, seen);
         }
         if left < size {
-            return Listed {
-                sent: true,
-                taken: at,
-            };
+            return upto(true, at, seen);
         }
         if !send_first(lines, n) {
-            return Listed {
-                sent: false,
-                taken: at,
-            };
+            return upto(false, at, seen);
         }
         at += size;
+        seen = with_kind(seen, kind);
     }
-    Listed {
-        sent: true,
-        taken: at,
-    }
+    upto(true, at, seen)
 }
 
 // The bytes of the room from a place up to another go to its start.
@@ -80,65 +94,80 @@ fn move_down(room: &mut [u8], from: usize, to: usize)
     }
 }
 
-// The line for a place of the file where no card begins.
-fn list_bad(place: usize) {
-    let mut line = [0u8; 64];
-    let n = list::write_bad(&mut line, place);
-    send_first(&line, n);
+// Bytes that are the last line of a listing that ends so.
+fn send_last(line: &[u8], seen: Seen, place: usize, rest: &[u8]) -> bool
+    requires { ⌜ now line ≡ lastLine seen place (now rest) ⌝ }
+{
+    send(line)
 }
 
-// How a listing stands: whether it goes on, how many bytes at the start of the room are yet to be listed, and their place in the file.
+// The last line of a listing that ends at a place, where the rest of the file is these bytes.
+fn end_at(seen: Seen, place: usize, rest: &[u8]) {
+    let line = last_line(seen, place, rest);
+    let text = line.bytes;
+    let n = line.size;
+    send_last(&text[..n], seen, place, rest);
+}
+
+// How a listing stands: whether it goes on, how many bytes at the start of the room are yet to be listed, their place in the file, and what
+// was seen before them.
 pub struct Window {
     pub open: bool,
     pub kept: usize,
     pub place: usize,
+    pub seen: Seen,
 }
 
 // A listing that has ended.
-fn closed() -> Window
+fn closed(seen: Seen) -> Window
     ensures { λ r. ⌜ r .kept ≡ 0 ⌝ }
 {
     Window {
         open: false,
         kept: 0,
         place: 0,
+        seen,
     }
 }
 
-// One room of the file: it is filled, its cards are listed, and a card that it cuts short is kept. The place where no card begins is
-// listed last.
+// One room of the file: it is filled, its cards are listed, and a card that it cuts short is kept. Where no card begins, and at the end of the
+// file, the last line is sent.
 fn list_some(room: &mut [u8], lines: &mut [u8], path: &[u8], fd: i32, window: Window) -> Window
     requires { ⌜ (length (now room) ≡ 65536) × (window .kept ≤ 65536) ⌝ }
     ensures { λ r. ⌜ r .kept ≤ 65536 ⌝ }
 {
     let kept = window.kept;
     let place = window.place;
+    let before = window.seen;
     if 9_000_000_000_000_000_000 < place {
-        return closed();
+        return closed(before);
     }
     let x = fill(fd, &mut room[kept..]);
     let got = x.count;
     if !x.good {
         says::failed(path);
-        return closed();
+        return closed(before);
     }
     let n = kept + got;
-    let y = list_cards(lines, &room[0..n], n < 65536);
-    let taken = y.taken;
+    let y = list_cards(lines, &room[0..n], n < 65536, before);
+    let passed = y.passed;
+    let taken = passed.taken;
+    let seen = passed.seen;
     if !y.sent {
-        return closed();
+        return closed(seen);
     }
+    let next = place + taken;
+    let left = n - taken;
     if n < 65536 || taken == 0 {
-        if taken < n {
-            list_bad(place + taken);
-        }
-        return closed();
+        end_at(seen, next, &room[taken..n]);
+        return closed(seen);
     }
     move_down(room, taken, n);
     Window {
         open: true,
-        kept: n - taken,
-        place: place + taken,
+        kept: left,
+        place: next,
+        seen,
     }
 }
 
@@ -151,6 +180,7 @@ fn list_all(room: &mut [u8], lines: &mut [u8], path: &[u8], fd: i32)
         open: true,
         kept: 0,
         place: 0,
+        seen: none_seen(),
     };
     let mut turns = u64::MAX;
     while turns > 0 && window.open {

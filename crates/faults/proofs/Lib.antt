@@ -1,0 +1,5 @@
+pub mod Says
+pub mod Lengths
+pub mod Counted
+pub mod Examples
+pub mod OneAnswer
