@@ -2,12 +2,45 @@
 
 use super::build::{any_card, longest, transfer_card, Cards};
 use crate::chance::Chance;
+use crate::model::card::{Due, LAST_CELL};
 
-/// Bytes that a check might take for a digit, a sign or a kind, and bytes next to these.
-pub const TELLING: [u8; 20] = [
-    b'0', b'9', b'/', b':', b'+', b'-', b',', b'.', b'T', b'X', b'Z', b'1', b'5', b'6', b' ',
-    b'\n', 0, 0x7F, 0xB0, 0xFF,
+/// Bytes that a check might take for a digit, a sign or a kind, bytes next to these, those that have
+/// their highest bit set besides, and some of every other sort.
+pub const TELLING: [u8; 36] = [
+    b'0', b'9', b'/', b':', b'+', b'-', b',', b'.', b'*', b'T', b'S', b'U', b't', b'X', b'Z', b'O',
+    b'l', b'1', b'2', b'3', b'4', b'5', b'6', b' ', b'\n', b'\r', b'\t', b'?', 0, 0x7F, 0x80, 0xAB,
+    0xB0, 0xB1, 0xD4, 0xFF,
 ];
+
+/// A byte that is not what is due.
+pub fn unfit(due: Due, chance: &mut Chance) -> u8 {
+    loop {
+        let byte = any_byte(chance);
+        if !due.fits(byte) {
+            return byte;
+        }
+    }
+}
+
+pub fn any_byte(chance: &mut Chance) -> u8 {
+    if chance.percent(50) {
+        chance.pick(&TELLING)
+    } else {
+        chance.next() as u8
+    }
+}
+
+/// A location or a first order that a card of the kind must not have.
+pub fn out_of_range(kind: u8, chance: &mut Chance) -> [u8; 3] {
+    let value = match kind {
+        b'2'..=b'5' if chance.percent(60) => {
+            let words = (kind - b'0') as u64;
+            chance.between(LAST_CELL + 2 - words, LAST_CELL)
+        }
+        _ => 0,
+    };
+    [value / 100, value / 10 % 10, value % 10].map(|digit| b'0' + digit as u8)
+}
 
 pub fn damaged_somehow(chance: &mut Chance) -> Vec<u8> {
     match chance.below(16) {
@@ -90,7 +123,7 @@ fn garbage(chance: &mut Chance) -> Vec<u8> {
 
 fn damage(deck: &mut [u8], chance: &mut Chance) {
     let place = chance.index(deck.len());
-    deck[place] = if chance.percent(50) { chance.pick(&TELLING) } else { chance.next() as u8 };
+    deck[place] = any_byte(chance);
 }
 
 fn damaged(chance: &mut Chance) -> Vec<u8> {
