@@ -75,7 +75,7 @@ for program in tests/self/nothing tests/self/refuses; do
 done
 for program in nothing refuses refuses-work; do
     export L1_PROGRAM="$PWD/tests/self/$program"
-    for part in answers rooms foreign making refused modes order stopped killed; do fails "tool-$part, $program" tests/tool.sh "$part"; done
+    for part in answers rooms foreign making faults refused modes order stopped killed; do fails "tool-$part, $program" tests/tool.sh "$part"; done
     fails "recorded, $program" recorded
     fails "prepared, $program" prepared
     fails "door, $program" env L1_DOOR="$L1_PROGRAM" sh -c '. tests/kit.sh && . tests/checks.sh && door'

@@ -4,8 +4,10 @@ mod aim;
 pub mod build;
 mod cases;
 mod damage;
+pub mod damaged;
 mod judge;
 mod seen;
+mod sentence;
 
 use crate::chance::Chance;
 use crate::files::{Reading, Writing};
