@@ -389,7 +389,8 @@ faults() {
     told=0 lists=0
     mkdir decks && "$root/target/second" damaged decks || fail 'no decks'
     for deck in decks/*.deck; do
-        name=${deck#decks/} name=${name%.deck}
+        name=${deck##*/}
+        name=${name%.deck}
         l1 deck "$deck" >out 2>err
         for output in out err; do
             cmp -s "decks/$name.$output" "$output" || fail "$name.deck: '$(cat "$output")', and it must be '$(cat "decks/$name.$output")'"
