@@ -3,7 +3,7 @@
 use std::ops::Range;
 
 use super::build::{any_card, any_cards, longest, transfer_card, Cards};
-use super::damage::{any_byte, out_of_range, unfit};
+use super::damage::{any_byte, foreign_card, out_of_range, unfit};
 use super::seen::{length, Class, Place, Seen};
 use crate::chance::Chance;
 use crate::model::card::{layout, CardFault, Due, BODY, KINDS, LOCATION, TRANSFER};
@@ -71,6 +71,10 @@ pub fn deck(wanted: Seen, chance: &mut Chance) -> Vec<u8> {
         Seen::TooLong { bad } => too_long(bad, chance),
         Seen::Card { fault, behind_t } => with_fault(fault, behind_t, chance),
         Seen::Found { due, class } => with_found(due, class, chance),
+        Seen::Foreign { kind } => {
+            let card = foreign_card(kind).into_bytes();
+            Around::data_card(chance.percent(50), chance).deck(card)
+        }
         Seen::Cut { kind, held } => {
             let mut card = card(kind, chance);
             card.truncate(held);

@@ -70,14 +70,23 @@ fn with_second_t(chance: &mut Chance) -> Vec<u8> {
     deck.bytes()
 }
 
+/// The kinds of cards that only a machine writes.
+pub const FOREIGN: [u8; 2] = *b"XZ";
+
+pub fn foreign_card(kind: u8) -> String {
+    match kind {
+        b'X' => format!("X0001001{}000", "+0000000000".repeat(6)),
+        _ => "Z000103000003+3000000050".to_string(),
+    }
+}
+
 /// Cards that only a machine writes, and kinds next to the good ones.
 fn with_foreign_card(chance: &mut Chance) -> Vec<u8> {
     let mut deck = Cards::any(chance);
-    let words = "+0000000000".repeat(6);
     let foreign = match chance.below(5) {
-        0 | 1 => format!("X0001001{words}000"),
-        2 => "Z000103000003+3000000050".to_string(),
-        3 => format!("60001001{words}000"),
+        0 | 1 => foreign_card(b'X'),
+        2 => foreign_card(b'Z'),
+        3 => foreign_card(b'X').replace('X', "6"),
         _ => format!("{}001000", chance.pick(&['t', 'U', 'D', 'S', '0', '6', ' '])),
     };
     let gap = deck.any_gap(chance);

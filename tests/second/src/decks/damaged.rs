@@ -5,6 +5,7 @@ use std::fs;
 use std::path::Path;
 
 use super::answer_of;
+use super::damage::FOREIGN;
 use super::seen::length;
 use super::sentence::sentence;
 use crate::model::card::{layout, DataCard, BODY, KINDS, LOCATION, TRANSFER};
@@ -92,7 +93,7 @@ fn placed(card: &[u8], behind_t: bool) -> Vec<u8> {
 
 /// Every byte that is no kind, but X and Z.
 fn bad_kinds() -> Vec<Vec<u8>> {
-    let no_kind = |byte: &u8| !KINDS.contains(byte) && !b"XZ".contains(byte);
+    let no_kind = |byte: &u8| !KINDS.contains(byte) && !FOREIGN.contains(byte);
     let deck = |byte: u8| {
         let mut bad = card(KINDS[byte as usize % 5]);
         bad[0] = byte;
@@ -236,8 +237,9 @@ mod tests {
     #[test]
     fn what_list_takes_for_a_card() {
         for Damaged { deck, listed } in all() {
-            let foreign = check(&deck)
-                .is_err_and(|bad| answer_of(&Err(bad)).0 == 13 && b"XZ".contains(&deck[bad.place]));
+            let foreign = check(&deck).is_err_and(|bad| {
+                answer_of(&Err(bad)).0 == 13 && FOREIGN.contains(&deck[bad.place])
+            });
             assert_eq!(listed, !foreign);
         }
     }

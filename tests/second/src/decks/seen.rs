@@ -1,6 +1,7 @@
 //! All that the check of a deck can come to: the list that the first decks of a stream are made for,
 //! and that the judge requires.
 
+use super::damage::{foreign_card, FOREIGN};
 use crate::model::card::{layout, CardFault, Due, BODY, KINDS, LAST_CELL, LOCATION, TRANSFER};
 use crate::model::deck::{BadDeck, Deck, Fault};
 
@@ -85,6 +86,10 @@ pub enum Seen {
         due: Place,
         class: Class,
     },
+    /// 13: a whole card that only a machine writes.
+    Foreign {
+        kind: u8,
+    },
     /// 14: so many bytes of a card of the kind are there.
     Cut {
         kind: u8,
@@ -138,6 +143,7 @@ pub fn reachable() -> Vec<Seen> {
     }
     // Behind T it would be a second one.
     all.push(Seen::Card { fault: FirstOrder000, behind_t: false });
+    all.extend(FOREIGN.map(|kind| Seen::Foreign { kind }));
     all.extend((2..=5).map(|words| Seen::Past { words }));
     for (told, untold) in [(14, 15), (14, 16), (15, 16), (17, 14), (17, 15), (17, 16)] {
         all.push(Seen::Over { told, untold });
@@ -205,7 +211,13 @@ fn of_card(fault: Fault, rest: &[u8], byte: usize, behind_t: bool) -> Vec<Seen> 
     let found = |due| Seen::Found { due, class: Class::of(rest[byte]) };
     let mut all = match fault {
         Fault::SecondT => vec![Seen::SecondT { whole: rest.len() >= length(kind) }],
-        Fault::Card(CardFault::Kind) => return vec![found(Place::Kind)],
+        Fault::Card(CardFault::Kind) => {
+            let foreign = FOREIGN.contains(&kind) && rest.len() >= foreign_card(kind).len();
+            return [found(Place::Kind)]
+                .into_iter()
+                .chain(foreign.then_some(Seen::Foreign { kind }))
+                .collect();
+        }
         Fault::Card(CardFault::CutShort) => vec![Seen::Cut { kind, held: rest.len() }],
         Fault::Card(CardFault::NotDigit) => {
             vec![Seen::Misfit { kind, byte }, found(Place::Body(Due::Digit))]
