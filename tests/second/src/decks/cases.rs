@@ -77,13 +77,15 @@ fn first(index: u64, chance: &mut Chance) -> Option<Vec<u8>> {
     })
 }
 
-/// The steps are taken in a mixed order, so that a short stream sees something of each part.
+/// The steps are taken in a mixed order, so that a short stream sees something of each part. With each
+/// sweep the kinds of cards take another turn.
 fn swept(seed: u64, step: u64, chance: &mut Chance) -> Vec<u8> {
     const STRIDE: u64 = 10_007;
+    let turn = step / SWEEP;
     let step = (step % SWEEP * STRIDE + seed % SWEEP) % SWEEP;
     if step < DAMAGES {
         let (place, byte) = (step % PLACES, TELLING[(step / PLACES) as usize]);
-        let mut deck = up_to(place + 1, chance);
+        let mut deck = up_to(place + 1, turn, chance);
         deck[place as usize] = byte;
         return deck;
     }
@@ -94,14 +96,14 @@ fn swept(seed: u64, step: u64, chance: &mut Chance) -> Vec<u8> {
         return deck;
     }
     let length = step - BYTES;
-    let mut deck = up_to(length, chance);
+    let mut deck = up_to(length, turn, chance);
     deck.truncate(length as usize);
     deck
 }
 
 /// A deck with every kind of card, and a second T behind it where so many places need one.
-fn up_to(places: u64, chance: &mut Chance) -> Vec<u8> {
-    let mut deck = Cards::every_kind(chance).bytes();
+fn up_to(places: u64, turn: u64, chance: &mut Chance) -> Vec<u8> {
+    let mut deck = Cards::every_kind(turn, chance).bytes();
     if places > EVERY_KIND {
         deck.extend(transfer_card(chance).bytes());
     }
