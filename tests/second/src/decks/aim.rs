@@ -1,12 +1,10 @@
 //! A deck for each thing that the check of a deck can come to.
 
-use std::ops::Range;
-
 use super::build::{any_card, any_cards, longest, transfer_card, Cards};
-use super::damage::{any_byte, foreign_card, out_of_range, unfit};
+use super::damage::{any_byte, foreign_card, out_of_range, past_999, put_judged, unfit};
 use super::seen::{length, Class, Place, Seen};
 use crate::chance::Chance;
-use crate::model::card::{layout, CardFault, Due, BODY, KINDS, LOCATION, TRANSFER};
+use crate::model::card::{judged_field, layout, CardFault, Due, BODY, KINDS, TRANSFER};
 
 /// Good cards, before a card and behind it.
 struct Around {
@@ -87,8 +85,10 @@ pub fn deck(wanted: Seen, chance: &mut Chance) -> Vec<u8> {
         }
         Seen::Misfits { first, later } => with_misfits(first, later, chance),
         Seen::Past { words } => {
-            let card = past_999(words as u64, chance);
-            Around::data_card(chance.percent(50), chance).deck(card)
+            let kind = b'0' + words;
+            let mut card = card(kind, chance);
+            put_judged(&mut card, past_999(kind, chance));
+            Around::a_card(kind, chance).deck(card)
         }
         Seen::SecondT { whole: true } => {
             let card = card(TRANSFER, chance);
@@ -137,16 +137,10 @@ fn unfit_kind(chance: &mut Chance) -> u8 {
     }
 }
 
-/// A card whose last cell is past 999.
-fn past_999(words: u64, chance: &mut Chance) -> Vec<u8> {
-    let mut card = any_card(chance, words);
-    card.location = chance.between(1_001 - words, 999);
-    card.text().into_bytes()
-}
-
 fn with_fault(fault: CardFault, behind_t: bool, chance: &mut Chance) -> Vec<u8> {
     let kind = match fault {
         CardFault::FirstOrder000 => TRANSFER,
+        CardFault::LastPast999 => chance.pick(b"2345"),
         _ => data_kind(chance),
     };
     let around = match kind {
@@ -162,10 +156,8 @@ fn with_fault(fault: CardFault, behind_t: bool, chance: &mut Chance) -> Vec<u8> 
         }
         CardFault::NotDigit => card[chance.between(1, 7) as usize] = unfit(Due::Digit, chance),
         CardFault::NotSign => card[8] = unfit(Due::Sign, chance),
-        CardFault::LastPast999 => card = past_999(chance.between(2, 5), chance),
-        CardFault::Location000 | CardFault::FirstOrder000 => {
-            card[field_of(kind)].copy_from_slice(b"000")
-        }
+        CardFault::LastPast999 => put_judged(&mut card, past_999(kind, chance)),
+        CardFault::Location000 | CardFault::FirstOrder000 => put_judged(&mut card, 0),
     }
     around.deck(card)
 }
@@ -214,12 +206,12 @@ fn with_found(due: Place, class: Class, chance: &mut Chance) -> Vec<u8> {
 fn with_two_faults(told: u64, untold: u64, chance: &mut Chance) -> Vec<u8> {
     let kind = if told == 17 { TRANSFER } else { chance.pick(&KINDS) };
     let around = if told == 17 { Around::second_t(chance) } else { Around::a_card(kind, chance) };
-    let field = field_of(kind);
     let mut card = card(kind, chance);
+    let mut shown = BODY;
     if untold == 16 {
-        card[field.clone()].copy_from_slice(&out_of_range(kind, chance));
+        put_judged(&mut card, out_of_range(kind, chance));
+        shown = judged_field(kind).end;
     }
-    let mut shown = if untold == 16 { field.end } else { BODY };
     if told == 15 || untold == 15 {
         // Not in the field that is judged for its range, and not the last byte, which is cut first.
         let place = if kind == TRANSFER { 4 } else { chance.pick(&[1, 4, 8, 9, 18, 19, 20]) };
@@ -231,12 +223,6 @@ fn with_two_faults(told: u64, untold: u64, chance: &mut Chance) -> Vec<u8> {
     }
     card.truncate(shown + chance.index(card.len() - shown));
     around.cut(card)
-}
-
-/// Where the location or the first order is.
-fn field_of(kind: u8) -> Range<usize> {
-    let start = if kind == TRANSFER { BODY } else { LOCATION };
-    start..start + 3
 }
 
 /// A card of the kind with the fault of a number; the deck ends behind it where it is cut short.
@@ -254,7 +240,7 @@ fn bad_card(number: u64, kind: u8, chance: &mut Chance) -> Vec<u8> {
                 }
             }
         }
-        16 => card[field_of(kind)].copy_from_slice(&out_of_range(kind, chance)),
+        16 => put_judged(&mut card, out_of_range(kind, chance)),
         _ => {}
     }
     card

@@ -2,7 +2,7 @@
 
 use super::build::{any_card, longest, transfer_card, Cards};
 use crate::chance::Chance;
-use crate::model::card::{Due, LAST_CELL};
+use crate::model::card::{highest, judged_field, Due, LAST_CELL};
 
 /// Bytes that a check might take for a digit, a sign or a kind, bytes next to these, those that have
 /// their highest bit set besides, and some of every other sort.
@@ -30,16 +30,24 @@ pub fn any_byte(chance: &mut Chance) -> u8 {
     }
 }
 
+/// Puts another location, or another first order, on a card.
+pub fn put_judged(card: &mut [u8], value: u64) {
+    let field = judged_field(card[0]);
+    card[field].copy_from_slice(format!("{value:03}").as_bytes());
+}
+
 /// A location or a first order that a card of the kind must not have.
-pub fn out_of_range(kind: u8, chance: &mut Chance) -> [u8; 3] {
-    let value = match kind {
-        b'2'..=b'5' if chance.percent(60) => {
-            let words = (kind - b'0') as u64;
-            chance.between(LAST_CELL + 2 - words, LAST_CELL)
-        }
-        _ => 0,
-    };
-    [value / 100, value / 10 % 10, value % 10].map(|digit| b'0' + digit as u8)
+pub fn out_of_range(kind: u8, chance: &mut Chance) -> u64 {
+    if highest(kind) < LAST_CELL && chance.percent(60) {
+        past_999(kind, chance)
+    } else {
+        0
+    }
+}
+
+/// A location from which the words of the kind, two at least, go past 999.
+pub fn past_999(kind: u8, chance: &mut Chance) -> u64 {
+    chance.between(highest(kind) + 1, LAST_CELL)
 }
 
 pub fn damaged_somehow(chance: &mut Chance) -> Vec<u8> {
@@ -97,16 +105,9 @@ fn with_foreign_card(chance: &mut Chance) -> Vec<u8> {
 /// Location 000, or a last location past 999, on either side of T.
 fn with_bad_location(chance: &mut Chance) -> Vec<u8> {
     let mut deck = Cards::any(chance);
-    let mut card;
-    if chance.one_in(3) {
-        let words = chance.between(1, 5);
-        card = any_card(chance, words);
-        card.location = 0;
-    } else {
-        let words = chance.between(2, 5);
-        card = any_card(chance, words);
-        card.location = chance.between(1_001 - words, 999);
-    }
+    let words = chance.between(1, 5);
+    let mut card = any_card(chance, words);
+    card.location = out_of_range(b'0' + words as u8, chance);
     let gap = deck.any_gap(chance);
     deck.cards.insert(gap, card.text());
     deck.bytes()

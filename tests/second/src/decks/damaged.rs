@@ -5,10 +5,10 @@ use std::fs;
 use std::path::Path;
 
 use super::answer_of;
-use super::damage::FOREIGN;
+use super::damage::{put_judged, FOREIGN};
 use super::seen::length;
 use super::sentence::sentence;
-use crate::model::card::{layout, DataCard, BODY, KINDS, LOCATION, TRANSFER};
+use crate::model::card::{highest, layout, DataCard, BODY, KINDS, LAST_CELL, TRANSFER};
 use crate::model::deck::check;
 use crate::model::word::Word;
 
@@ -146,14 +146,14 @@ fn cut_short() -> Vec<Vec<u8>> {
 fn out_of_range() -> Vec<Vec<u8>> {
     let mut decks = Vec::new();
     for kind in KINDS {
-        let past = match kind {
-            b'2'..=b'5' => vec![1_001 - (kind - b'0') as u64, 999],
-            _ => vec![],
-        };
-        let field = if kind == TRANSFER { BODY } else { LOCATION };
-        for value in [0].into_iter().chain(past) {
+        // T and cards of one word go past 999 from nowhere, those of two from one location.
+        let past = highest(kind) + 1..=LAST_CELL;
+        let mut values = vec![0];
+        values.extend(past.clone().take(1).chain(past.last()));
+        values.dedup();
+        for value in values {
             let mut bad = card(kind);
-            bad[field..field + 3].copy_from_slice(format!("{value:03}").as_bytes());
+            put_judged(&mut bad, value);
             decks.extend([false, true].map(|behind_t| placed(&bad, behind_t)));
         }
     }

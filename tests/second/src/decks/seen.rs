@@ -2,7 +2,7 @@
 //! and that the judge requires.
 
 use super::damage::{foreign_card, FOREIGN};
-use crate::model::card::{layout, CardFault, Due, BODY, KINDS, LAST_CELL, LOCATION, TRANSFER};
+use crate::model::card::{highest, judged_field, layout, CardFault, Due, BODY, KINDS, TRANSFER};
 use crate::model::deck::{BadDeck, Deck, Fault};
 
 /// What is due at a byte of a deck.
@@ -271,14 +271,10 @@ fn misfits(rest: &[u8]) -> Vec<Due> {
 
 /// Whether the location or the first order is there, three digits, and out of range.
 fn out_of_range(rest: &[u8]) -> bool {
-    let (field, words) = match rest[0] {
-        TRANSFER => (BODY, 1),
-        kind => (LOCATION, (kind - b'0') as u64),
-    };
-    let digits = rest.get(field..field + 3).and_then(|field| std::str::from_utf8(field).ok());
+    let digits = rest.get(judged_field(rest[0])).and_then(|field| std::str::from_utf8(field).ok());
     let digits = digits.filter(|digits| digits.bytes().all(|digit| digit.is_ascii_digit()));
     let value: Option<u64> = digits.and_then(|digits| digits.parse().ok());
-    value.is_some_and(|value| value == 0 || value + words - 1 > LAST_CELL)
+    value.is_some_and(|value| value == 0 || value > highest(rest[0]))
 }
 
 /// Whether good cards have a T among them: the only byte T that they can hold is its kind.

@@ -1,6 +1,6 @@
 //! What the program says of a deck that breaks a rule, in a sentence.
 
-use crate::model::card::{layout, CardFault, Due, Part, BODY, LAST_CELL, TRANSFER};
+use crate::model::card::{highest, layout, CardFault, Due, Part, BODY};
 use crate::model::deck::{BadDeck, Fault, LONGEST};
 
 pub fn sentence(deck: &[u8], bad: &BadDeck) -> String {
@@ -52,10 +52,7 @@ fn of_misfit(deck: &[u8], bad: &BadDeck) -> String {
 
 fn of_range(deck: &[u8], bad: &BadDeck) -> String {
     let (field, _) = due_at(deck, bad, bad.place);
-    let highest = match deck[bad.start] {
-        TRANSFER => LAST_CELL,
-        kind => LAST_CELL + 1 - (kind - b'0') as u64,
-    };
+    let highest = highest(deck[bad.start]);
     let (place, digits) = (bad.place, deck[bad.place..bad.place + 3].escape_ascii());
     format!(
         "{field}: 001 to {highest:03} is due at byte {place}, and the digits there are {digits}"

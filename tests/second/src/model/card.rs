@@ -1,5 +1,7 @@
 //! Cards: the layout of each kind, reading one card, writing one card.
 
+use std::ops::Range;
+
 use super::word::{put_digits, Word};
 
 /// What is due at one byte of a card's body.
@@ -74,10 +76,24 @@ pub const TRANSFER: u8 = b'T';
 
 /// Where the body and a data card's location begin.
 pub const BODY: usize = 1;
-pub const LOCATION: usize = 5;
+const LOCATION: usize = 5;
 
 /// Locations and addresses of three digits end here.
 pub const LAST_CELL: u64 = 999;
+
+/// Where the location of a data card, or T's first order, stands on a card of the kind.
+pub fn judged_field(kind: u8) -> Range<usize> {
+    let start = if kind == TRANSFER { BODY } else { LOCATION };
+    start..start + 3
+}
+
+/// The highest location that a data card of the kind may have, or T's highest first order.
+pub fn highest(kind: u8) -> u64 {
+    match kind {
+        TRANSFER => LAST_CELL,
+        _ => LAST_CELL + 1 - (kind - b'0') as u64,
+    }
+}
 
 /// The body that a kind byte promises, byte by byte, or none if decks hold no such kind.
 pub fn layout(kind: u8) -> Option<Vec<(Part, Due)>> {
