@@ -500,6 +500,31 @@ static void refusals(void)
     expect_untouched("a mark of 2", 6);
 }
 
+/* The same with a deck that is too long, and has no good card. */
+static void long_refusals(void)
+{
+    static const uint8_t deck[LONGEST + 1];
+    static const struct {
+        const char *what;
+        size_t cells, numbers;
+        uint64_t number, place;
+    } all[] = {
+        {"a short drum, a deck that is too long", CELLS - 1, STATE, 10, 0},
+        {"a deck that is too long", CELLS, STATE, 11, LONGEST},
+        {"a deck that is too long, a short state", CELLS, STATE - 1, 11, LONGEST},
+    };
+    size_t i;
+
+    for (i = 0; i < COUNT(all); i++) {
+        clear();
+        struct l1_place l = l1_load(drum, all[i].cells, marks, CELLS, deck, sizeof deck, state, all[i].numbers, 0);
+        expect(all[i].what, l.number, l.place, all[i].number, all[i].place);
+        struct l1_ended r = l1_run(drum, all[i].cells, marks, CELLS, deck, sizeof deck, out, ROOM, state, all[i].numbers, 1, 1);
+        expect_ended(all[i].what, r, all[i].number, all[i].place, 0, 0, 0);
+        expect_untouched(all[i].what, 0);
+    }
+}
+
 /* ---- decks made of drums. */
 
 #define ALL 13196
@@ -679,6 +704,7 @@ int main(void)
     switches();
     losses();
     refusals();
+    long_refusals();
     makes();
     printf("panel: %d cases, %d wrong\n", tried, wrong);
     return wrong != 0;

@@ -40,7 +40,8 @@ pub fn case(seed: u64, index: u64) -> Vec<u8> {
     if let Some(&wanted) = aims().get((index - FIRST) as usize) {
         return aim::deck(wanted, chance);
     }
-    let (round, turn) = (index / CYCLE, index % CYCLE);
+    let behind = index - FIRST - aims().len() as u64;
+    let (round, turn) = (behind / CYCLE, behind % CYCLE);
     if turn < AIMED {
         let at = (round * AIMED + turn) as usize % aims().len();
         return aim::deck(aims()[at], chance);
@@ -56,6 +57,7 @@ pub fn aims() -> &'static [Seen] {
     AIMS.get_or_init(reachable)
 }
 
+/// How many named decks there are.
 const FIRST: u64 = 9;
 
 /// The first decks of every stream: the paper's own, and the lengths that a rule names.

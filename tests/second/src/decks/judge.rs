@@ -34,7 +34,7 @@ impl Covered {
         }
         let all = reachable();
         let rarest = all.iter().min_by_key(|&&wanted| self.times(wanted)).expect("a list");
-        println!("covered: of {} things the rarest {rarest:?}: {}", all.len(), self.times(*rarest));
+        println!("covered: {} things, the rarest {rarest:?}: {}", all.len(), self.times(*rarest));
         for wanted in all {
             verdict.require(format!("{wanted:?}"), self.times(wanted), often_enough(count));
         }
