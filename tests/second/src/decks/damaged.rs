@@ -1,13 +1,11 @@
 //! Damaged decks for the program, as files with what it must say of each: a sweep with nothing of
 //! chance in it.
 
-use std::fs;
-use std::path::Path;
-
 use super::answer_of;
 use super::damage::{put_judged, FOREIGN};
 use super::seen::length;
 use super::sentence::sentence;
+use crate::files::Writing;
 use crate::model::card::{highest, layout, DataCard, BODY, KINDS, LAST_CELL, TRANSFER};
 use crate::model::deck::check;
 use crate::model::word::Word;
@@ -21,11 +19,11 @@ struct Damaged {
 /// Writes the decks and what is due of each into a folder: `out` and `err`, the outputs of `deck`, and
 /// `last`, the last line of `list`, which is empty for a good deck.
 pub fn write(folder: &str) {
-    let folder = Path::new(folder);
     for (number, Damaged { deck, listed }) in (1..).zip(all()) {
-        let file = |ending: &str| folder.join(format!("{number:04}.{ending}"));
         let put = |ending: &str, bytes: &[u8]| {
-            fs::write(file(ending), bytes).expect("a file of a damaged deck can be written")
+            let mut file = Writing::create(&format!("{folder}/{number:04}.{ending}"));
+            file.bytes(bytes);
+            file.finish();
         };
         let checked = check(&deck);
         let (out, err, last) = match &checked {
