@@ -3,7 +3,8 @@
  * known to do the same work. */
 #include "plain.h"
 
-enum { OK = 0, BUDGET = 2, DRUM = 10, DECK = 11, STATE = 12, ADDRESS = 20, FOREIGN, ROOM, CODE, OPERAND, ZERO, ROOT, RANGE, UNFIT, NO_CARD };
+enum { OK = 0, BUDGET = 2, DRUM = 10, TOO_LONG, STATE, KIND, CUT, BYTE, LOCATION, SECOND_T, NO_T };
+enum { ADDRESS = 20, FOREIGN, ROOM, CODE, OPERAND, ZERO, ROOT, RANGE, UNFIT, NO_CARD };
 
 #define CELLS 1000
 #define MINUS 10000000000u
@@ -207,50 +208,56 @@ static uint64_t word_of(const uint8_t *card, int i)
     return digits(from + 1, 10) + (*from == '-' ? MINUS : 0);
 }
 
-/* How long the good card at a place is, or 0. */
-static size_t card_size(const uint8_t *deck, size_t len, size_t at)
+/* Whether a sign is due at a place of a card of n words, which is none of T. */
+static int is_sign(size_t i, size_t n)
 {
-    int kind = deck[at], n = kind - '0';
-    size_t size, i;
-    uint64_t location;
-    if (kind == 'T')
-        n = 0;
-    else if (kind < '1' || kind > '5')
-        return 0;
-    size = kind == 'T' ? 7 : 11 + 11 * (size_t)n;
-    if (len - at < size)
-        return 0;
-    for (i = 1; i < size; i++) {
-        uint8_t b = deck[at + i];
-        if (n && i >= 8 && i < size - 3 && (i - 8) % 11 == 0 ? b != '+' && b != '-' : b < '0' || b > '9')
-            return 0;
-    }
-    location = digits(deck + at + (n ? 5 : 1), 3);
-    if (location < 1 || location + (n ? (uint64_t)n : 1) > CELLS)
-        return 0;
-    return size;
+    return n && i >= 8 && i < 8 + 11 * n && (i - 8) % 11 == 0;
 }
 
-/* The check of a deck: OK and the place behind the first-order card, or DECK and the place to tell. */
+/* What is wrong with the card at a place, or OK; and the place to tell, or that behind the card. */
+static int check_card(const uint8_t *deck, size_t len, size_t at, int second, size_t *place)
+{
+    const uint8_t *card = deck + at;
+    size_t n = *card == 'T' ? 0 : (size_t)(*card - '0'), size = n ? 11 + 11 * n : 7, i;
+    uint64_t location;
+    *place = at;
+    if (*card != 'T' && (*card < '1' || *card > '5'))
+        return KIND;
+    if (*card == 'T' && second)
+        return SECOND_T;
+    if (len - at < size)
+        return CUT;
+    for (i = 1; i < size; i++) {
+        *place = at + i;
+        if (is_sign(i, n) ? card[i] != '+' && card[i] != '-' : card[i] < '0' || card[i] > '9')
+            return BYTE;
+    }
+    *place = at + (n ? 5 : 1);
+    location = digits(deck + *place, 3);
+    if (location < 1 || location + (n ? n : 1) > CELLS)
+        return LOCATION;
+    *place = at + size;
+    return OK;
+}
+
+/* The check of a deck: OK and the place behind the first-order card, or what is wrong and the place to tell. */
 static int check_deck(const uint8_t *deck, size_t len, size_t *place)
 {
-    size_t at = 0, behind = 0, size;
-    if (len > DECK_MOST) {
-        *place = DECK_MOST;
-        return DECK;
-    }
+    size_t at = 0, behind = 0;
+    int no;
+    *place = DECK_MOST;
+    if (len > DECK_MOST)
+        return TOO_LONG;
     while (at < len) {
-        size = card_size(deck, len, at);
-        if (size == 0 || (deck[at] == 'T' && behind)) {
-            *place = at;
-            return DECK;
-        }
+        no = check_card(deck, len, at, behind != 0, place);
+        if (no)
+            return no;
         if (deck[at] == 'T')
-            behind = at + size;
-        at += size;
+            behind = *place;
+        at = *place;
     }
     *place = behind ? behind : len;
-    return behind ? OK : DECK;
+    return behind ? OK : NO_T;
 }
 
 static void store_card(uint64_t *drum, uint8_t *marks, const uint8_t *card)

@@ -37,11 +37,22 @@ struct l1_sum {
                         zero; 0 with a refusal. From 3 on the order would stop a run, with 3, if the switch is on STOP */
 };
 
-/* What the check of a deck answers: 0 and 0, or 11 and a place. */
+/* What the check of a deck answers: 0 and 0, or the number of the first fault and its place. A place is an offset in the deck. The length
+ * is judged first, then the cards one by one; of a card's faults the first in the order 13, 17, 14, 15, 16 is told, and no card behind it
+ * is looked at. */
 struct l1_place {
-    uint64_t number; /* 0 for a good deck, 11 for one that breaks a card rule */
-    uint64_t place;  /* with 11: the offset of the kind byte of the first card with a fault; the deck's length, where all its cards
-                        are good and none is a first-order card; 65,536, where the deck is longer than that */
+    uint64_t number; /* 0 for a good deck, or
+                        11: the deck is longer than 65,536 bytes;
+                        13: a card is of no kind that a deck may hold, 1 to 5 and T;
+                        14: a card is cut short by the end of the deck;
+                        15: a byte is not the digit or the sign that is due;
+                        16: a location or a first order is 000, or the last cell of a card is past 999;
+                        17: a first-order card is a second one, whatever follows its kind;
+                        18: all cards are good, and none is a first-order card */
+    uint64_t place;  /* with 13, 14 and 17: that of the card's kind;
+                        with 15: that of the byte, the first from the left in its card;
+                        with 16: that of the first byte of the location or of the first order;
+                        with 11: 65,536; with 18: the deck's length; with 0: 0 */
 };
 
 /* Arithmetic on two words. The exact result is rounded once to eight digits, a half away from zero; zero is always the word 0.
@@ -78,7 +89,7 @@ struct l1_place l1_deck(const uint8_t *deck, size_t deck_len);
  * and sets all nine numbers of the state, in plain mode where traced is 0 and in traced mode where it is any other number.
  * Answers 0 and 0 when that is done. Else nothing that was lent is changed, the state included, and the answer is the first of
  *   10 and 0: the drum or the marks are not 1,000 long, a mark is above 1, or a marked cell holds more than 19,999,999,999;
- *   11 and the place that l1_deck tells: the deck breaks a card rule;
+ *   11, or 13 to 18, and the place, as l1_deck tells them: the deck breaks a card rule;
  *   12 and 0: state_len is not 9.
  * The numbers that the state holds before the call are not judged. */
 struct l1_place l1_load(uint64_t *drum, size_t cells, uint8_t *marks, size_t marks_len, const uint8_t *deck, size_t deck_len,
@@ -87,9 +98,9 @@ struct l1_place l1_load(uint64_t *drum, size_t cells, uint8_t *marks, size_t mar
 /* What a run answers. */
 struct l1_ended {
     uint64_t number;  /* how it ended: 0 or 1 for the stops that an order asks for, 2 where the budget is used, 3 where the switch is on
-                         STOP and the sum or the difference in front of the location has lost more than two digits, 10, 11 or 12
+                         STOP and the sum or the difference in front of the location has lost more than two digits, 10 to 18
                          where nothing was begun, 20 to 29 where the order at the location was refused and undone */
-    uint64_t place;   /* with 11 the place that l1_deck tells, else 0 */
+    uint64_t place;   /* with 11, and with 13 to 18, the place that l1_deck tells, else 0 */
     uint64_t count;   /* the orders completed in this call, an order that stopped the run among them */
     uint64_t shown;   /* the word that a stop shows, as a number, which with 3 is the result; 0 but for the stops 0, 1 and 3 */
     uint64_t written; /* how many bytes at the start of the output hold cards of this call; the bytes past them are as before */
@@ -99,7 +110,7 @@ struct l1_ended {
  * it is any other number. Cards for READ come from the deck behind the reader; cards punched and trace cards go to the room bytes at
  * out. Drum, marks and state are left so that a later call goes on; after 3 too the result is stored and the order counted, and the
  * next call begins with the order behind it. Where nothing is begun, nothing that was lent is changed, and the
- * number is the first of 10 and 11, as for l1_load, and
+ * number is the first of 10 and the numbers of the deck, as for l1_load, and
  *   12: state_len is not 9, or the state or the budget is not one that a run may have: budget above 999,999, location above 1000, a
  *       count above 999, card counter above 9999, problem number above 999, mode above 1, tracing above mode, cell 000 not marked, or
  *       the reader neither at the start of a card behind the first-order card nor at the end of the deck. */

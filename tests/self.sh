@@ -75,7 +75,7 @@ for program in tests/self/nothing tests/self/refuses; do
 done
 for program in nothing refuses refuses-work; do
     export L1_PROGRAM="$PWD/tests/self/$program"
-    for part in answers rooms foreign making refused modes order stopped killed; do fails "tool-$part, $program" tests/tool.sh "$part"; done
+    for part in answers rooms foreign making faults refused modes order stopped killed; do fails "tool-$part, $program" tests/tool.sh "$part"; done
     fails "recorded, $program" recorded
     fails "prepared, $program" prepared
     fails "door, $program" env L1_DOOR="$L1_PROGRAM" sh -c '. tests/kit.sh && . tests/checks.sh && door'
@@ -124,6 +124,20 @@ for fault in numbered-from-0 card-numbers-of-a-byte with-000 without-999 rest-fi
     written-then-refused; do
     fails "makes, $fault" with_fault makes makes "$fault"
 done
+build_c driver-decks panel tests/self/decks.c || exit 2
+while read -r kind faults; do
+    fails "$kind, no fault of decks" without_fault decks "$kind"
+    for fault in $faults; do fails "$kind, decks: $fault" with_fault decks "$kind" "$fault"; done
+done <<END
+decks 11-at-the-length 11-behind-the-cards 65536-too-long 13-as-11 x-and-z-let-in 14-at-the-end 15-at-the-kind last-bad-byte \
+    sign-for-a-digit digit-for-a-sign 47-for-a-digit 58-for-a-digit space-for-a-digit seven-bits any-card-number any-problem-number \
+    16-at-the-kind 16-at-the-last-digit first-order-at-the-kind past-999-at-the-kind past-999-at-the-last-word past-999-let-in \
+    last-cell-refused location-000-let-in location-behind-t-not-judged first-order-not-judged second-t-let-in 17-behind-14 17-behind-15 \
+    17-behind-16 15-before-14 16-before-14 16-before-15 18-at-0 18-before-a-bad-card empty-deck-let-in later-card
+sessions 11-at-load 11-at-run place-0-at-run deck-before-drum state-before-deck 11-behind-the-cards 13-as-11 x-and-z-let-in 14-at-the-end \
+    15-at-the-kind 16-at-the-kind past-999-at-the-kind first-order-at-the-kind location-behind-t-not-judged second-t-let-in 18-at-0 \
+    18-before-a-bad-card
+END
 build_c driver-sums panel tests/self/sums.c || exit 2
 while read -r kind faults; do
     fails "$kind, no fault of sums" without_fault sums "$kind"

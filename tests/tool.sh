@@ -6,6 +6,7 @@
 #   foreign   machine files that differ in unmarked cells alone: the same outputs, and these cells as they were
 #   making    decks made of machine files, against decks that are made here: they load the same cells on another machine, and the file stays
 #             as it was
+#   faults    damaged decks that the second program makes, with what it says is due of each: number, place and sentence
 #   refused   files and outputs that cannot be written: the machine file stays as it was, and no new file is left beside it
 #   modes     a machine file is its owner's alone, when it is made and when it is replaced, whatever the old one's rights are
 #   order     the calls of the system in their order: cards, the new file whole and flushed, its new name, the Z card
@@ -207,7 +208,7 @@ unseen() {
 
 # ends_in_z FILE: its last 24 bytes are a Z card. is_refusal FILE: it is the line of a refused call.
 ends_in_z() { tail -c 24 "$1" | grep -qE '^Z[0-9]{12}[+-][0-9]{10}$'; }
-is_refusal() { grep -qE '^1[012] [0-9]+$' "$1"; }
+is_refusal() { grep -qE '^1[0-8] [0-9]+$' "$1"; }
 
 # happened WORDS..: what the call on one.machine, one.before before it, was for has been done, or was refused.
 happened() {
@@ -367,6 +368,38 @@ making() {
     done
     [ "$decks" -gt 20 ] || fail "$decks decks"
     echo "tool: $decks decks made and loaded again, and 4 calls on files and outputs of other kinds"
+}
+
+# ---- faults
+
+# listed_to_its_end NAME: list ends with the line that is due of the deck, or with no such line where the deck is good.
+listed_to_its_end() {
+    l1 list "decks/$1.deck" >listed 2>err
+    [ -s listed ] || fail "$1.deck: list writes nothing"
+    tail -n 1 listed >last
+    if [ -s "decks/$1.last" ]; then
+        cmp -s "decks/$1.last" last || fail "$1.deck: list ends with '$(cat last)', and it must be '$(cat "decks/$1.last")'"
+    else
+        ! grep -q ' due ' last || fail "$1.deck: list ends with '$(cat last)', and the deck is good"
+    fi
+    lists=$((lists + 1))
+}
+
+faults() {
+    told=0 lists=0
+    mkdir decks && "$root/target/second" damaged decks || fail 'no decks'
+    for deck in decks/*.deck; do
+        name=${deck##*/}
+        name=${name%.deck}
+        l1 deck "$deck" >out 2>err
+        for output in out err; do
+            cmp -s "decks/$name.$output" "$output" || fail "$name.deck: '$(cat "$output")', and it must be '$(cat "decks/$name.$output")'"
+        done
+        told=$((told + 1))
+        [ ! -f "decks/$name.last" ] || listed_to_its_end "$name"
+    done
+    [ "$told" -gt 0 ] && [ "$lists" -gt 0 ] || fail "$told decks, $lists listings"
+    echo "tool: $told damaged decks told as they should be, $lists of them listed to the fault"
 }
 
 # ---- refused
@@ -673,7 +706,7 @@ killed() {
 }
 
 case $part in
-answers | rooms | foreign | making | refused | modes | order | stopped | killed) "$part" ;;
+answers | rooms | foreign | making | faults | refused | modes | order | stopped | killed) "$part" ;;
 *)
     echo "tool: $part is no part" >&2
     exit 2

@@ -134,6 +134,9 @@ static const struct {
 
 #define CARDS "30001101+1200201202+0410202202+000020200000720002200+1000000050+2000000050007"
 #define ONE_WORD "10001001+0000000000007"
+#define TWO_WORDS "+0000000000-0000000000"
+#define FOUR_WORDS TWO_WORDS TWO_WORDS
+#define SIX_WORDS TWO_WORDS FOUR_WORDS
 
 static const struct {
     const char *what, *deck;
@@ -143,24 +146,68 @@ static const struct {
     {"a first-order card alone", "T001000", 0, 0},
     {"a card behind the first-order card", "T999999" ONE_WORD, 0, 0},
     {"the last cell", "10000999-9999999999000T101007", 0, 0},
-    {"the last five cells", "50000995+0000000000+0000000000+0000000000+0000000000-0000000000000T101007", 0, 0},
-    {"no card", "", 11, 0},
-    {"no first-order card", CARDS, 11, 77},
-    {"two first-order cards", "T101007T101007", 11, 7},
-    {"a fault before a second first-order card", "T101007" "10001000+0000000000007" "T101007", 11, 7},
-    {"a fault behind a good card", ONE_WORD "10001001+00000000x0007T101007", 11, 22},
-    {"location 000", "10001000+0000000000007T101007", 11, 0},
-    {"past cell 999", "20001999+0000000000+0000000000007T101007", 11, 0},
-    {"first order 000", "T000007", 11, 0},
-    {"a first-order card that is cut short", ONE_WORD "T10100", 11, 22},
-    {"a data card that is cut short", "T101007" "10001001+000000000000", 11, 7},
-    {"a letter for a sign", "10001001 0000000000007T101007", 11, 0},
-    {"a letter in a card number", "1000a001+0000000000007T101007", 11, 0},
-    {"a letter in a problem number", "10001001+000000000000bT101007", 11, 0},
-    {"a trace card", "X", 11, 0},
-    {"a kind of 0", "0" "T101007", 11, 0},
-    {"a kind of 6", "T101007" "6", 11, 7},
-    {"a line end", "T101007\n", 11, 7},
+    {"the last five cells", "50000995" FOUR_WORDS "-0000000000000T101007", 0, 0},
+    {"the last two cells, behind the first-order card", "T101007" "20000998" TWO_WORDS "000", 0, 0},
+
+    {"a kind of 0", "0" "T101007", 13, 0},
+    {"a kind of 6", "T101007" "6", 13, 7},
+    {"a line end", "T101007\n", 13, 7},
+    {"a small t", ONE_WORD "t101007", 13, 22},
+    {"a trace card", "X0001101" SIX_WORDS "007T101007", 13, 0},
+    {"a trace card that is cut short", "X", 13, 0},
+    {"a stop card", "T101007" "Z000103000003+3000000050", 13, 7},
+    {"a kind of 177, which is 1 and the highest bit", "\261" "0001001+0000000000007", 13, 0},
+
+    {"a first-order card that is cut short", ONE_WORD "T10100", 14, 22},
+    {"the kind of a first-order card alone", "T", 14, 0},
+    {"a data card that is cut short", "T101007" "10001001+000000000000", 14, 7},
+    {"the kind of a data card alone", ONE_WORD "5", 14, 22},
+    {"a card of five words with the length of four", "50001001" FOUR_WORDS "007", 14, 0},
+    {"cut short, with a byte that does not fit", "1000x001", 14, 0},
+    {"cut short, with location 000", "10001000+0000000000", 14, 0},
+
+    {"a letter in a card number", "1000a001+0000000000007T101007", 15, 4},
+    {"a space in a location", "10001 01+0000000000007T101007", 15, 5},
+    {"a space for a sign", "10001001 0000000000007T101007", 15, 8},
+    {"a digit for a sign", "1000100100000000000007T101007", 15, 8},
+    {"a sign for a digit", "10001001++000000000007T101007", 15, 9},
+    {"no sign in a second word", "20001001+000000000000000000000007T101007", 15, 19},
+    {"a letter in a word of the second card", ONE_WORD "10001001+00000000x0007T101007", 15, 39},
+    {"a letter in a problem number", "10001001+000000000000bT101007", 15, 21},
+    {"a point in a first order", "T1.1007", 15, 2},
+    {"a line end for the last digit", "T10100\n", 15, 6},
+    {"the byte below the digits", "T/01007", 15, 1},
+    {"the byte above the digits", "T10100:", 15, 6},
+    {"a digit with the highest bit", "T10\2610007", 15, 3},
+    {"two bytes that do not fit", "10001001-00x0000000y07T101007", 15, 11},
+    {"a sign that does not fit before a digit", "10001001*00x0000000007T101007", 15, 8},
+    {"a bad byte behind location 000", "10001000+00x0000000007T101007", 15, 11},
+    {"a bad byte before a location past 999", "2a001999" TWO_WORDS "007T101007", 15, 1},
+    {"a bad byte behind first order 000", "T00000a", 15, 6},
+
+    {"location 000", "10001000+0000000000007T101007", 16, 5},
+    {"location 000 behind the first-order card", "T101007" "10001000+0000000000007", 16, 12},
+    {"two words past cell 999", "20001999" TWO_WORDS "007T101007", 16, 5},
+    {"four words past cell 999", ONE_WORD "40001997" FOUR_WORDS "007T101007", 16, 27},
+    {"five words past cell 999", "T101007" "50001996" FOUR_WORDS "+0000000000007", 16, 12},
+    {"first order 000", "T000007", 16, 1},
+    {"first order 000 behind a card", ONE_WORD "T000007", 16, 23},
+
+    {"two first-order cards", "T101007T101007", 17, 7},
+    {"a second first-order card behind a card", "T101007" ONE_WORD "T101007", 17, 29},
+    {"a second first-order card that is cut short", "T101007T", 17, 7},
+    {"a second first-order card with a letter", "T101007Txxxxxx", 17, 7},
+    {"a second first-order card of 000", "T101007T000000", 17, 7},
+
+    {"no card", "", 18, 0},
+    {"no first-order card", CARDS, 18, 77},
+
+    {"a fault before a second first-order card", "T101007" "10001000+0000000000007" "T101007", 16, 12},
+    {"a second first-order card before a fault", "T101007" "T101007" "10001000+0000000000007", 17, 7},
+    {"16 in one card, 13 in the next", "10001000+0000000000007" "?", 16, 5},
+    {"15 in one card, 14 in the next", "T101007" "10001001+000000000x007" "1000", 15, 25},
+    {"a bad first-order card, and another", "T000007" "T101007", 16, 1},
+    {"a bad card, and no first-order card", ONE_WORD "10001000+0000000000007", 16, 27},
 };
 
 static size_t length(const char *text)
@@ -188,11 +235,21 @@ static void long_decks(void)
     r = l1_deck(deck, whole);
     expect("the most one-word cards", r.number, r.place, 0, 0);
     r = l1_deck(deck, LONGEST);
-    expect("the longest deck, its last card cut short", r.number, r.place, 11, whole);
+    expect("the longest deck, its last card cut short", r.number, r.place, 14, whole);
     r = l1_deck(deck, LONGEST + 1);
     expect("a byte more", r.number, r.place, 11, LONGEST);
     r = l1_deck(deck, whole + k);
     expect("a card more", r.number, r.place, 11, LONGEST);
+    r = l1_deck(deck + n, whole - n);
+    expect("the most one-word cards, and no first-order card", r.number, r.place, 18, whole - n);
+    deck[whole - 1] = 'x';
+    r = l1_deck(deck, whole);
+    expect("a letter in the last byte of all", r.number, r.place, 15, whole - 1);
+    deck[0] = '?';
+    r = l1_deck(deck, LONGEST);
+    expect("a bad kind before it", r.number, r.place, 13, 0);
+    r = l1_deck(deck, LONGEST + 1);
+    expect("the length before all cards", r.number, r.place, 11, LONGEST);
 }
 
 /* ---- load and run. Cells that no card names are foreign, and hold numbers that are no words. */
@@ -387,7 +444,7 @@ static void losses(void)
     expect_out("the run that goes on", "X0002102+0000202000+0000202000+0000000000+0000000000+7800000044+7800000044007");
 }
 
-/* Check 10 before 11 before 12, in both calls, with nothing changed. */
+/* Check 10 before the numbers of the deck, and these before 12, in both calls, with nothing changed. */
 static void refusals(void)
 {
     static const struct {
@@ -395,10 +452,23 @@ static void refusals(void)
         size_t cells, numbers;
         uint64_t number, place;
     } all[] = {
-        {"a short drum, a bad deck, a short state", "T101007?", CELLS - 1, STATE - 1, 10, 0},
+        {"a short drum, an unknown kind, a short state", "T101007?", CELLS - 1, STATE - 1, 10, 0},
+        {"a short drum, a byte that does not fit", "T10x007", CELLS - 1, STATE, 10, 0},
+        {"a long drum, no card", "", CELLS + 1, STATE, 10, 0},
         {"a long drum", CARDS "T101007", CELLS + 1, STATE, 10, 0},
-        {"a bad deck", "T101007?", CELLS, STATE, 11, 7},
-        {"a bad deck, no state", "T101007?", CELLS, 0, 11, 7},
+        {"an unknown kind", "T101007?", CELLS, STATE, 13, 7},
+        {"an unknown kind, no state", "T101007?", CELLS, 0, 13, 7},
+        {"a card that is cut short", ONE_WORD "T10100", CELLS, STATE, 14, 22},
+        {"a card that is cut short, a long state", ONE_WORD "T10100", CELLS, STATE + 1, 14, 22},
+        {"a byte that does not fit", CARDS "T10x007", CELLS, STATE, 15, 80},
+        {"a byte that does not fit, a short state", CARDS "T10x007", CELLS, STATE - 1, 15, 80},
+        {"a last cell past 999", "T101007" "20001999" TWO_WORDS "007", CELLS, STATE, 16, 12},
+        {"location 000, no state", "10001000+0000000000007T101007", CELLS, 0, 16, 5},
+        {"first order 000", CARDS "T000007", CELLS, STATE, 16, 78},
+        {"a second first-order card", CARDS "T101007" CARDS "T101007", CELLS, STATE, 17, 161},
+        {"a second first-order card, a long state", CARDS "T101007T", CELLS, STATE + 1, 17, 84},
+        {"no first-order card", CARDS, CELLS, STATE, 18, 77},
+        {"no card, no state", "", CELLS, 0, 18, 0},
         {"a short state", CARDS "T101007", CELLS, STATE - 1, 12, 0},
         {"a long state", CARDS "T101007", CELLS, STATE + 1, 12, 0},
         {"no state", CARDS "T101007", CELLS, 0, 12, 0},
@@ -428,6 +498,31 @@ static void refusals(void)
     l = load(session, CELLS, STATE, 0);
     expect("a mark of 2", l.number, l.place, 10, 0);
     expect_untouched("a mark of 2", 6);
+}
+
+/* The same with a deck that is too long, and has no good card. */
+static void long_refusals(void)
+{
+    static const uint8_t deck[LONGEST + 1];
+    static const struct {
+        const char *what;
+        size_t cells, numbers;
+        uint64_t number, place;
+    } all[] = {
+        {"a short drum, a deck that is too long", CELLS - 1, STATE, 10, 0},
+        {"a deck that is too long", CELLS, STATE, 11, LONGEST},
+        {"a deck that is too long, a short state", CELLS, STATE - 1, 11, LONGEST},
+    };
+    size_t i;
+
+    for (i = 0; i < COUNT(all); i++) {
+        clear();
+        struct l1_place l = l1_load(drum, all[i].cells, marks, CELLS, deck, sizeof deck, state, all[i].numbers, 0);
+        expect(all[i].what, l.number, l.place, all[i].number, all[i].place);
+        struct l1_ended r = l1_run(drum, all[i].cells, marks, CELLS, deck, sizeof deck, out, ROOM, state, all[i].numbers, 1, 1);
+        expect_ended(all[i].what, r, all[i].number, all[i].place, 0, 0, 0);
+        expect_untouched(all[i].what, 0);
+    }
 }
 
 /* ---- decks made of drums. */
@@ -609,6 +704,7 @@ int main(void)
     switches();
     losses();
     refusals();
+    long_refusals();
     makes();
     printf("panel: %d cases, %d wrong\n", tried, wrong);
     return wrong != 0;

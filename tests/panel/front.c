@@ -230,7 +230,7 @@ static int session(char **typed, int count)
         return 1;
     }
     struct l1_ended r = l1_run(drum, CELLS, marks, CELLS, deck, deck_len, out, ROOM, state, STATE, c.budget, c.stop);
-    if (r.number >= 10 && r.number <= 12) {
+    if (r.number >= 10 && r.number <= 18) {
         printf("%lu %lu", r.number, r.place);
         return 1;
     }

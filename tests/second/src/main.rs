@@ -29,6 +29,7 @@ usage: second numbers SEED COUNT FILE             write cases
        second judge-sessions SEED COUNT ANSWERS
        second judge-codes SEED COUNT ANSWERS
        second judge-makes SEED COUNT ANSWERS
+       second damaged FOLDER                      damaged decks, and what the program says of each
        second session FILE [traced] [stop] [budget=N]   load a deck on an empty drum and run it
        second speed FILE plain|traced             orders a second on a deck that goes round
        second self COUNT SEED                     all but session with the model alone";
@@ -49,6 +50,10 @@ fn main() -> ExitCode {
 /// Does what the arguments ask; whether all is well, or none for a call that is not understood.
 fn run(arguments: &[&str]) -> Option<bool> {
     match *arguments {
+        ["damaged", folder] => {
+            decks::damaged::write(folder);
+            Some(true)
+        }
         ["session", file, ref words @ ..] => recorded::session(file, words),
         ["speed", file, mode] => speed::orders(file, mode),
         ["self", count, seed] => Some(self_test::all(count.parse().ok()?, seed.parse().ok()?)),

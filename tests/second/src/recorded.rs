@@ -86,7 +86,8 @@ mod tests {
         assert_eq!(said(DECK, &[]), "10001202+3000000050007Z000103000003+3000000050");
         assert_eq!(said(DECK, &["budget=1"]), "Z020102000001+0000000000");
         assert_eq!(said(DECK, &["budget=1000000"]), "12 0");
-        assert_eq!(said(&DECK[..77], &["traced"]), "11 77");
+        assert_eq!(said(&DECK[..77], &["traced"]), "18 77");
+        assert_eq!(said(&DECK.replace("+041", "+O41"), &[]), "15 20");
         let lost = DECK.replace("+2000000050", "-9990000049");
         assert_eq!(said(&lost, &["stop"]), "Z030102000001+1000000047");
         assert!(choice(&["trace"]).is_none() && choice(&["budget=x"]).is_none());

@@ -2,12 +2,53 @@
 
 use super::build::{any_card, longest, transfer_card, Cards};
 use crate::chance::Chance;
+use crate::model::card::{highest, judged_field, Due, LAST_CELL};
 
-/// Bytes that a check might take for a digit, a sign or a kind, and bytes next to these.
-pub const TELLING: [u8; 20] = [
-    b'0', b'9', b'/', b':', b'+', b'-', b',', b'.', b'T', b'X', b'Z', b'1', b'5', b'6', b' ',
-    b'\n', 0, 0x7F, 0xB0, 0xFF,
+/// Bytes that a check might take for a digit, a sign or a kind, bytes next to these, those that have
+/// their highest bit set besides, and some of every other sort.
+pub const TELLING: [u8; 36] = [
+    b'0', b'9', b'/', b':', b'+', b'-', b',', b'.', b'*', b'T', b'S', b'U', b't', b'X', b'Z', b'O',
+    b'l', b'1', b'2', b'3', b'4', b'5', b'6', b' ', b'\n', b'\r', b'\t', b'?', 0, 0x7F, 0x80, 0xAB,
+    0xB0, 0xB1, 0xD4, 0xFF,
 ];
+
+/// A byte that is not what is due.
+pub fn unfit(due: Due, chance: &mut Chance) -> u8 {
+    loop {
+        let byte = any_byte(chance);
+        if !due.fits(byte) {
+            return byte;
+        }
+    }
+}
+
+pub fn any_byte(chance: &mut Chance) -> u8 {
+    if chance.percent(50) {
+        chance.pick(&TELLING)
+    } else {
+        chance.next() as u8
+    }
+}
+
+/// Puts another location, or another first order, on a card.
+pub fn put_judged(card: &mut [u8], value: u64) {
+    let field = judged_field(card[0]);
+    card[field].copy_from_slice(format!("{value:03}").as_bytes());
+}
+
+/// A location or a first order that a card of the kind must not have.
+pub fn out_of_range(kind: u8, chance: &mut Chance) -> u64 {
+    if highest(kind) < LAST_CELL && chance.percent(60) {
+        past_999(kind, chance)
+    } else {
+        0
+    }
+}
+
+/// A location from which the words of the kind, two at least, go past 999.
+pub fn past_999(kind: u8, chance: &mut Chance) -> u64 {
+    chance.between(highest(kind) + 1, LAST_CELL)
+}
 
 pub fn damaged_somehow(chance: &mut Chance) -> Vec<u8> {
     match chance.below(16) {
@@ -37,14 +78,23 @@ fn with_second_t(chance: &mut Chance) -> Vec<u8> {
     deck.bytes()
 }
 
+/// The kinds of cards that only a machine writes.
+pub const FOREIGN: [u8; 2] = *b"XZ";
+
+pub fn foreign_card(kind: u8) -> String {
+    match kind {
+        b'X' => format!("X0001001{}000", "+0000000000".repeat(6)),
+        _ => "Z000103000003+3000000050".to_string(),
+    }
+}
+
 /// Cards that only a machine writes, and kinds next to the good ones.
 fn with_foreign_card(chance: &mut Chance) -> Vec<u8> {
     let mut deck = Cards::any(chance);
-    let words = "+0000000000".repeat(6);
     let foreign = match chance.below(5) {
-        0 | 1 => format!("X0001001{words}000"),
-        2 => "Z000103000003+3000000050".to_string(),
-        3 => format!("60001001{words}000"),
+        0 | 1 => foreign_card(b'X'),
+        2 => foreign_card(b'Z'),
+        3 => foreign_card(b'X').replace('X', "6"),
         _ => format!("{}001000", chance.pick(&['t', 'U', 'D', 'S', '0', '6', ' '])),
     };
     let gap = deck.any_gap(chance);
@@ -55,16 +105,9 @@ fn with_foreign_card(chance: &mut Chance) -> Vec<u8> {
 /// Location 000, or a last location past 999, on either side of T.
 fn with_bad_location(chance: &mut Chance) -> Vec<u8> {
     let mut deck = Cards::any(chance);
-    let mut card;
-    if chance.one_in(3) {
-        let words = chance.between(1, 5);
-        card = any_card(chance, words);
-        card.location = 0;
-    } else {
-        let words = chance.between(2, 5);
-        card = any_card(chance, words);
-        card.location = chance.between(1_001 - words, 999);
-    }
+    let words = chance.between(1, 5);
+    let mut card = any_card(chance, words);
+    card.location = out_of_range(b'0' + words as u8, chance);
     let gap = deck.any_gap(chance);
     deck.cards.insert(gap, card.text());
     deck.bytes()
@@ -90,7 +133,7 @@ fn garbage(chance: &mut Chance) -> Vec<u8> {
 
 fn damage(deck: &mut [u8], chance: &mut Chance) {
     let place = chance.index(deck.len());
-    deck[place] = if chance.percent(50) { chance.pick(&TELLING) } else { chance.next() as u8 };
+    deck[place] = any_byte(chance);
 }
 
 fn damaged(chance: &mut Chance) -> Vec<u8> {

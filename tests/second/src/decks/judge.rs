@@ -2,43 +2,42 @@
 
 use std::collections::BTreeMap;
 
-use super::{answer, cases::case, UNHURT};
+use super::seen::{reachable, seen, Seen};
+use super::{answer_of, cases::case, UNHURT};
 use crate::files::Reading;
-use crate::model::card::CardFault;
-use crate::model::deck::{check, BadDeck, Fault};
+use crate::model::deck::{check, BadDeck, Deck};
 use crate::verdict::{often_enough, Verdict};
 
-/// What is told of a deck for the coverage: good, or its fault and whether a T stands before it.
-type Seen = Option<(Fault, bool)>;
-
-fn seen(deck: &[u8]) -> Seen {
-    let BadDeck { fault, place, .. } = check(deck).err()?;
-    let behind_t = fault != Fault::TooLong && check(&deck[..place]).is_ok();
-    Some((fault, behind_t))
+/// What the decks have shown, and how often each number was due.
+#[derive(Default)]
+struct Covered {
+    seen: BTreeMap<Seen, u64>,
+    numbers: BTreeMap<u64, u64>,
 }
 
-/// All that can be reached.
-fn reachable() -> Vec<Seen> {
-    use CardFault::*;
-    let mut all = vec![
-        None,
-        Some((Fault::TooLong, false)),
-        Some((Fault::NoT, false)),
-        Some((Fault::SecondT, true)),
-    ];
-    for fault in [Kind, CutShort, NotDigit, NotSign, Location000, LastPast999, FirstOrder000] {
-        all.push(Some((Fault::Card(fault), false)));
-        all.push(Some((Fault::Card(fault), true)));
+impl Covered {
+    fn take(&mut self, deck: &[u8], checked: &Result<Deck, BadDeck>) {
+        *self.numbers.entry(answer_of(checked).0).or_default() += 1;
+        for shown in seen(deck, checked) {
+            *self.seen.entry(shown).or_default() += 1;
+        }
     }
-    all
-}
 
-fn name(seen: Seen) -> String {
-    match seen {
-        None => "good".to_string(),
-        Some((Fault::Card(fault), false)) => format!("{fault:?} before T"),
-        Some((Fault::Card(fault), true)) => format!("{fault:?} behind T"),
-        Some((fault, _)) => format!("{fault:?}"),
+    fn times(&self, wanted: Seen) -> u64 {
+        self.seen.get(&wanted).copied().unwrap_or(0)
+    }
+
+    /// Prints what was covered, and requires all that can be reached.
+    fn close(&self, count: u64, verdict: &mut Verdict) {
+        for (number, times) in &self.numbers {
+            println!("covered: answer {number:02}: {times}");
+        }
+        let all = reachable();
+        let rarest = all.iter().min_by_key(|&&wanted| self.times(wanted)).expect("a list");
+        println!("covered: {} things, the rarest {rarest:?}: {}", all.len(), self.times(*rarest));
+        for wanted in all {
+            verdict.require(format!("{wanted:?}"), self.times(wanted), often_enough(count));
+        }
     }
 }
 
@@ -46,37 +45,34 @@ fn name(seen: Seen) -> String {
 pub fn judge(seed: u64, count: u64, path: &str) -> bool {
     let mut answers = Reading::open(path);
     let mut verdict = Verdict::new();
-    let mut covered: BTreeMap<Seen, u64> = BTreeMap::new();
+    let mut covered = Covered::default();
     for index in 0..count {
         let deck = case(seed, index);
-        let due = answer(&deck);
-        *covered.entry(seen(&deck)).or_default() += 1;
+        let checked = check(&deck);
+        covered.take(&deck, &checked);
         let Some([number, place, touched]) = answers.some() else {
             verdict.difference(|| format!("deck {index}: the answers end before it"));
             break;
         };
-        if (number, place) != due {
-            verdict.difference(|| tell(index, &deck, due, (number, place)));
+        if (number, place) != answer_of(&checked) {
+            verdict.difference(|| tell(index, &deck, &checked, (number, place)));
         }
         if touched != UNHURT {
             verdict.difference(|| format!("deck {index}: touched {touched}"));
         }
     }
     verdict.end_of_answers(answers.at_end());
-    for case in reachable() {
-        let times = covered.get(&case).copied().unwrap_or(0);
-        println!("covered: {}: {times}", name(case));
-        verdict.require(name(case), times, often_enough(count));
-    }
+    covered.close(count, &mut verdict);
     verdict.close("decks", count, "decks", seed)
 }
 
-fn tell(index: u64, deck: &[u8], due: (u64, u64), got: (u64, u64)) -> String {
+fn tell(index: u64, deck: &[u8], checked: &Result<Deck, BadDeck>, got: (u64, u64)) -> String {
     let start = deck[..deck.len().min(500)].escape_ascii();
     let length = deck.len();
-    let fault = match check(deck) {
+    let due = answer_of(checked);
+    let fault = match checked {
         Ok(_) => "good".to_string(),
-        Err(bad) => format!("{:?} at byte {}", bad.fault, bad.byte),
+        Err(bad) => format!("{:?} in the card at {}", bad.fault, bad.start),
     };
     format!(
         "deck {index} of {length} bytes, {fault}: model {} {}, answer {} {}: {start}",

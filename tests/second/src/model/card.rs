@@ -1,12 +1,33 @@
 //! Cards: the layout of each kind, reading one card, writing one card.
 
+use std::ops::Range;
+
 use super::word::{put_digits, Word};
 
 /// What is due at one byte of a card's body.
-#[derive(Clone, Copy, Debug, PartialEq, Eq)]
-enum Due {
+#[derive(Clone, Copy, Debug, PartialEq, Eq, PartialOrd, Ord)]
+pub enum Due {
     Digit,
     Sign,
+}
+
+impl Due {
+    pub fn fits(self, found: u8) -> bool {
+        match self {
+            Due::Digit => found.is_ascii_digit(),
+            Due::Sign => found == b'+' || found == b'-',
+        }
+    }
+}
+
+/// A field of a card's body. Words are counted from 1.
+#[derive(Clone, Copy, Debug, PartialEq, Eq)]
+pub enum Part {
+    CardNumber,
+    Location,
+    Word(u8),
+    Problem,
+    FirstOrder,
 }
 
 /// A card that a deck may hold.
@@ -40,33 +61,58 @@ pub enum CardFault {
     FirstOrder000,
 }
 
-/// A fault and the offset, within the card, of the byte or the field that shows it.
+/// A fault and the offset, within the card, that is told of it.
 #[derive(Clone, Copy, Debug, PartialEq, Eq)]
 pub struct BadCard {
     pub fault: CardFault,
     pub byte: usize,
 }
 
+/// The kinds of cards that a deck may hold.
+pub const KINDS: [u8; 6] = *b"12345T";
+
+/// The kind of the card that names the first order.
+pub const TRANSFER: u8 = b'T';
+
 /// Where the body and a data card's location begin.
-const BODY: usize = 1;
+pub const BODY: usize = 1;
 const LOCATION: usize = 5;
 
 /// Locations and addresses of three digits end here.
 pub const LAST_CELL: u64 = 999;
 
-/// The body that a kind byte promises, or none if decks hold no such kind.
-fn layout(kind: u8) -> Option<Vec<Due>> {
+/// Where the location of a data card, or T's first order, stands on a card of the kind.
+pub fn judged_field(kind: u8) -> Range<usize> {
+    let start = if kind == TRANSFER { BODY } else { LOCATION };
+    start..start + 3
+}
+
+/// The highest location that a data card of the kind may have, or T's highest first order.
+pub fn highest(kind: u8) -> u64 {
+    match kind {
+        TRANSFER => LAST_CELL,
+        _ => LAST_CELL + 1 - (kind - b'0') as u64,
+    }
+}
+
+/// The body that a kind byte promises, byte by byte, or none if decks hold no such kind.
+pub fn layout(kind: u8) -> Option<Vec<(Part, Due)>> {
     let words = match kind {
-        b'1'..=b'5' => (kind - b'0') as usize,
-        b'T' => return Some(vec![Due::Digit; 3 + 3]),
+        b'1'..=b'5' => kind - b'0',
+        TRANSFER => {
+            return Some(
+                [[(Part::FirstOrder, Due::Digit); 3], [(Part::Problem, Due::Digit); 3]].concat(),
+            );
+        }
         _ => return None,
     };
-    let mut layout = vec![Due::Digit; 4 + 3];
-    for _ in 0..words {
-        layout.push(Due::Sign);
-        layout.extend([Due::Digit; 10]);
+    let mut layout = vec![(Part::CardNumber, Due::Digit); 4];
+    layout.extend([(Part::Location, Due::Digit); 3]);
+    for word in 1..=words {
+        layout.push((Part::Word(word), Due::Sign));
+        layout.extend([(Part::Word(word), Due::Digit); 10]);
     }
-    layout.extend([Due::Digit; 3]);
+    layout.extend([(Part::Problem, Due::Digit); 3]);
     Some(layout)
 }
 
@@ -75,18 +121,16 @@ pub fn read_card(rest: &[u8]) -> Result<(Card, usize), BadCard> {
     let layout = layout(rest[0]).ok_or(BadCard { fault: CardFault::Kind, byte: 0 })?;
     let length = BODY + layout.len();
     let body = rest.get(BODY..length).ok_or(BadCard { fault: CardFault::CutShort, byte: 0 })?;
-    for (byte, (&found, due)) in (BODY..).zip(body.iter().zip(layout)) {
-        match due {
-            Due::Digit if !found.is_ascii_digit() => {
-                return Err(BadCard { fault: CardFault::NotDigit, byte });
-            }
-            Due::Sign if found != b'+' && found != b'-' => {
-                return Err(BadCard { fault: CardFault::NotSign, byte });
-            }
-            _ => {}
+    for (byte, (&found, (_, due))) in (BODY..).zip(body.iter().zip(layout)) {
+        if !due.fits(found) {
+            let fault = match due {
+                Due::Digit => CardFault::NotDigit,
+                Due::Sign => CardFault::NotSign,
+            };
+            return Err(BadCard { fault, byte });
         }
     }
-    let card = if rest[0] == b'T' { transfer_card(body)? } else { data_card(body)? };
+    let card = if rest[0] == TRANSFER { transfer_card(body)? } else { data_card(body)? };
     Ok((card, length))
 }
 
@@ -155,20 +199,36 @@ mod tests {
         }
     }
 
+    /// The length of a good card, or what is told of a bad one.
+    fn read(text: &str) -> Result<usize, (CardFault, usize)> {
+        let card = read_card(text.as_bytes());
+        card.map(|(_, length)| length).map_err(|bad| (bad.fault, bad.byte))
+    }
+
     #[test]
     fn faults_of_one_card() {
-        let read = |text: &str| read_card(text.as_bytes());
-        let fault = |text| read(text).map(|(_, length)| length).map_err(|bad| bad.fault);
-        assert_eq!(fault("T001000"), Ok(7));
-        assert_eq!(fault("T000000"), Err(CardFault::FirstOrder000));
-        assert_eq!(fault("T00100"), Err(CardFault::CutShort));
-        assert_eq!(fault("T00100+"), Err(CardFault::NotDigit));
-        assert_eq!(fault("X"), Err(CardFault::Kind));
-        assert_eq!(fault("10000001+0000000000000"), Ok(22));
-        assert_eq!(fault("1000a001+0000000000000"), Err(CardFault::NotDigit));
-        assert_eq!(fault("10000001 0000000000000"), Err(CardFault::NotSign));
-        assert_eq!(fault("10000000+0000000000000"), Err(CardFault::Location000));
-        assert_eq!(fault("20000999+0000000000+0000000000000"), Err(CardFault::LastPast999));
-        assert_eq!(fault("20000998+0000000000-0000000000000"), Ok(33));
+        use CardFault::*;
+        assert_eq!(read("T001000"), Ok(7));
+        assert_eq!(read("T000000"), Err((FirstOrder000, 1)));
+        assert_eq!(read("T00100"), Err((CutShort, 0)));
+        assert_eq!(read("T00100+"), Err((NotDigit, 6)));
+        assert_eq!(read("X"), Err((Kind, 0)));
+        assert_eq!(read("10000001+0000000000000"), Ok(22));
+        assert_eq!(read("1000a001+0000000000000"), Err((NotDigit, 4)));
+        assert_eq!(read("10000001 0000000000000"), Err((NotSign, 8)));
+        assert_eq!(read("10000000+0000000000000"), Err((Location000, 5)));
+        assert_eq!(read("20000999+0000000000+0000000000000"), Err((LastPast999, 5)));
+        assert_eq!(read("20000998+0000000000-0000000000000"), Ok(33));
+    }
+
+    #[test]
+    fn of_several_faults_of_a_card_the_first_line_is_told() {
+        use CardFault::*;
+        assert_eq!(read("?00"), Err((Kind, 0)));
+        assert_eq!(read("1000a000"), Err((CutShort, 0)));
+        assert_eq!(read("10000000+00000x0000y00"), Err((NotDigit, 14)));
+        assert_eq!(read("1000000000000000000000"), Err((NotSign, 8)));
+        assert_eq!(read("20000999+000000000+-0000000000000"), Err((NotDigit, 18)));
+        assert_eq!(read("T000b00"), Err((NotDigit, 4)));
     }
 }

@@ -95,6 +95,18 @@ pub enum Event {
         idle: bool,
     },
     RunRefusedForSeveral,
+    /// Told besides, of a call that is refused with 10: the deck breaks the rule of this number too.
+    /// `run`: the call is a run, and not a load.
+    DeckUntold {
+        number: u64,
+        run: bool,
+    },
+    /// Told besides, of a call that is refused with this number of its deck: with a good deck it would
+    /// be refused with 12.
+    StateUntold {
+        number: u64,
+        run: bool,
+    },
     /// `modified`: the loop box made the order as done another than the order as stored.
     Completed {
         code: Code,

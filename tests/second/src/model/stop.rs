@@ -1,6 +1,7 @@
 //! Why a call or an order ended, and the stop number of each reason.
 
 use super::arithmetic::OutOfRange;
+use super::card::CardFault;
 use super::deck::Fault;
 
 /// An address of an order, or the count of the loop box that belongs to it.
@@ -144,7 +145,7 @@ impl Reason {
             BudgetUsed => 2,
             DigitsLost => 3,
             DrumLength(_) | MarksLength(_) | MarkAboveOne(_) | MarkedCellNoWord(_) => 10,
-            Deck(_) => 11,
+            Deck(fault) => of_deck(fault),
             StateLength(_) | BudgetAbove999999 | LocationAbove1000 | BoxAbove999(_) => 12,
             CounterAbove9999 | ProblemAbove999 | ModeAbove1 | TracingAbove1 => 12,
             TracingInPlainMode | Cell000Unmarked | ReaderAstray(_) => 12,
@@ -176,6 +177,20 @@ impl Reason {
             | TracingInPlainMode | Cell000Unmarked | ReaderAstray(_) => Some(Entry::State),
             _ => None,
         }
+    }
+}
+
+/// What breaks a rule of cards and decks (W-203).
+fn of_deck(fault: Fault) -> u64 {
+    use CardFault::*;
+    match fault {
+        Fault::TooLong => 11,
+        Fault::Card(Kind) => 13,
+        Fault::Card(CutShort) => 14,
+        Fault::Card(NotDigit | NotSign) => 15,
+        Fault::Card(Location000 | LastPast999 | FirstOrder000) => 16,
+        Fault::SecondT => 17,
+        Fault::NoT => 18,
     }
 }
 

@@ -4,10 +4,12 @@ use super::digest;
 use super::message::{Make, Message};
 use crate::decks::UNHURT;
 use crate::model::calls::{load, run, Ended, Refusal, Run};
+use crate::model::deck::check;
+use crate::model::drum::Drum;
 use crate::model::event::Event;
 use crate::model::making::make;
 use crate::model::state::{State, NAMES};
-use crate::model::stop::Reason;
+use crate::model::stop::{Entry, Reason};
 
 /// What every byte of the output holds before a run.
 const UNTOUCHED: u8 = 0xA5;
@@ -88,7 +90,12 @@ impl Bench {
             Message::Load { traced } => {
                 self.behind_loss = false;
                 let Bench { cells, marks, deck, state, .. } = self;
-                Some(Outcome::Load(load(cells, marks, deck, state, *traced != 0, witness)))
+                let loaded = load(cells, marks, deck, state, *traced != 0, witness);
+                if let Err(Refusal { reason, .. }) = loaded {
+                    let no_state = State::of_numbers(&self.state).is_err();
+                    self.tell_untold(reason, false, no_state, witness);
+                }
+                Some(Outcome::Load(loaded))
             }
             Message::Run { room, budget, stop } => {
                 Some(self.run(*room, *budget, *stop != 0, witness))
@@ -118,7 +125,39 @@ impl Bench {
             witness(Event::WentOnBehindLoss { traced: state.traced_mode() });
         }
         self.behind_loss = ended.reason == Reason::DigitsLost;
+        if ended.reason.entry().is_some() {
+            let no_state = self.run_has_no_state(budget);
+            self.tell_untold(ended.reason, true, no_state, witness);
+        }
         Outcome::Run { ended, out }
+    }
+
+    /// Tells what else is wrong with a refused call, of later lines. It has changed nothing.
+    fn tell_untold(
+        &self,
+        reason: Reason,
+        run: bool,
+        no_state: bool,
+        witness: &mut dyn FnMut(Event),
+    ) {
+        match (reason.entry(), check(&self.deck)) {
+            (Some(Entry::Drum), Err(bad)) => {
+                witness(Event::DeckUntold { number: Reason::Deck(bad.fault).number(), run })
+            }
+            (Some(Entry::Deck), _) if no_state => {
+                witness(Event::StateUntold { number: reason.number(), run })
+            }
+            _ => {}
+        }
+    }
+
+    /// Whether a run with a good deck, and the reader behind its T, would be refused with 12.
+    fn run_has_no_state(&mut self, budget: u64) -> bool {
+        let good = check(b"T001000").expect("a good deck");
+        let Ok(drum) = Drum::lent(&mut self.cells, &mut self.marks) else { return false };
+        let Ok(state) = State::of_numbers(&self.state) else { return true };
+        let state = State { reader: good.behind_t as u64, ..state };
+        !state.faults(budget, &drum, &good).is_empty()
     }
 
     fn make(&mut self, asked: Make) -> Outcome {

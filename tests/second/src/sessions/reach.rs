@@ -153,7 +153,10 @@ pub const FAULTS: [Fault; 10] = [
     Fault::Card(CardFault::FirstOrder000),
 ];
 
-const LENGTHS: [Length; 3] = [Length::Short, Length::Long, Length::Multiple];
+/// The numbers of these faults.
+const DECK_NUMBERS: [u64; 7] = [11, 13, 14, 15, 16, 17, 18];
+
+pub const LENGTHS: [Length; 3] = [Length::Short, Length::Long, Length::Multiple];
 const MARKS: [Mark; 4] = [Mark::Two, Mark::Three, Mark::Even, Mark::Odd];
 const ASTRAY: [Astray; 6] = [
     Astray::AtT { first: true },
@@ -207,6 +210,11 @@ pub fn of_calls() -> Vec<Event> {
             if !idle || reason != Reason::BudgetAbove999999 {
                 events.push(Event::RunRefused { reason, idle });
             }
+        }
+    }
+    for number in DECK_NUMBERS {
+        for run in [false, true] {
+            events.extend([Event::DeckUntold { number, run }, Event::StateUntold { number, run }]);
         }
     }
     events.push(Event::RunRefusedForSeveral);

@@ -1,4 +1,4 @@
-//! 10, 11, 12, load, and what a run asks of its state.
+//! 10, the numbers of a deck, 12, load, and what a run asks of its state.
 
 use super::{Job, START};
 use crate::model::state::{State, NUMBERS};
@@ -67,21 +67,46 @@ fn budget_and_location() {
     assert_eq!(job.refused(1), (21, 0));
 }
 
+/// A deck for each number, with its place.
+fn bad_decks() -> [(String, u64, u64); 7] {
+    [
+        ("?".repeat(65_537), 11, 65_536),
+        ("T101007?".to_string(), 13, 7),
+        ("T101007100".to_string(), 14, 7),
+        ("T101007100O1001+0000000000000".to_string(), 15, 10),
+        ("T10100710001000+0000000000000".to_string(), 16, 12),
+        ("T101007T101007".to_string(), 17, 7),
+        ("10001001+0000000000000".to_string(), 18, 22),
+    ]
+}
+
 #[test]
-fn ten_comes_before_eleven_before_twelve() {
-    let mut job = Job::new().with_deck("T101007?");
-    job.state.location = 5_000;
-    assert_eq!((job.run(1).reason.number(), job.run(1).place), (11, 7));
-    job.marks[3] = 9;
-    assert_eq!((job.run(1).reason.number(), job.run(1).place), (10, 0));
+fn ten_comes_before_the_deck_before_twelve() {
+    for (deck, number, place) in bad_decks() {
+        let mut job = Job::new().with_deck(&deck);
+        job.state.location = 5_000;
+        assert_eq!((job.run(1).reason.number(), job.run(1).place), (number, place));
+        assert_eq!(job.load(false), (number, place));
+        job.numbers = 8;
+        assert_eq!((job.run(0).reason.number(), job.run(0).place), (number, place));
+        assert_eq!(job.load(true), (number, place));
+        job.marks[3] = 9;
+        assert_eq!((job.run(1).reason.number(), job.run(1).place), (10, 0));
+        assert_eq!(job.load(false), (10, 0));
+    }
 }
 
 #[test]
 fn load_judges_no_state_and_gives_it_back_when_it_refuses() {
-    let mut job = Job::new().with_deck("T101007T101007");
+    let mut job = Job::new();
     let strange = State::of_numbers(&[u64::MAX; NUMBERS]).expect("a state");
     job.state = strange;
-    assert_eq!((job.load(true), job.state), ((11, 7), strange));
+    let before = (job.cells.clone(), job.marks.clone(), job.state);
+    for (deck, number, place) in bad_decks() {
+        job.deck = deck;
+        assert_eq!(job.load(true), (number, place));
+        assert_eq!(before, (job.cells.clone(), job.marks.clone(), job.state));
+    }
     job.deck = DECK.to_string();
     job.cells[0] = 20_000_000_000;
     assert_eq!(job.load(true), (10, 0));

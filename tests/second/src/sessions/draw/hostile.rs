@@ -1,5 +1,5 @@
-//! Sessions aimed at what a call as a whole comes to: 10, 11, 12 at load and at run, one line at a
-//! time or several at once, and that nothing is changed by them.
+//! Sessions aimed at what a call as a whole comes to: 10, the numbers of a deck, 12 at load and at run,
+//! one line at a time or several at once, and that nothing is changed by them.
 
 use super::draft::Draft;
 use super::parts::built;
@@ -15,7 +15,7 @@ use crate::model::state::{State, NUMBERS};
 use crate::model::stop::{Entry, Reason, FIELDS};
 use crate::model::word::Word;
 use crate::sessions::message::Message;
-use crate::sessions::reach::{lines_of_12, FAULTS};
+use crate::sessions::reach::{lines_of_10, lines_of_12, FAULTS, LENGTHS};
 
 /// What the calls of a session are given.
 #[derive(Clone)]
@@ -47,6 +47,14 @@ pub fn session(event: Event, chance: &mut Chance) -> Vec<Message> {
             break_line(reason, &mut draft, &mut bad, chance);
         }
         Event::RunRefusedForSeveral => break_several(&mut draft, &mut bad, chance),
+        Event::DeckUntold { number, .. } => {
+            break_deck(number, &mut draft, &mut bad, chance);
+            break_line(chance.pick(&lines_of_10()), &mut draft, &mut bad, chance);
+        }
+        Event::StateUntold { number, run } => {
+            break_deck(number, &mut draft, &mut bad, chance);
+            break_line(line_behind_deck(run, chance), &mut draft, &mut bad, chance);
+        }
         Event::Loaded { cell_000, .. } => set_cell_000(cell_000, &mut draft, chance),
         Event::BudgetUsed { zero: true } => bad.budget = 0,
         _ => {}
@@ -75,7 +83,9 @@ fn call(event: Event, bad: &Given, draft: &mut Draft, chance: &mut Chance) {
     draft.deck(bad.deck.clone());
     draft.set_numbers(bad.lent());
     match event {
-        Event::LoadRefused(_) => draft.load(chance.below(2)),
+        Event::LoadRefused(_)
+        | Event::DeckUntold { run: false, .. }
+        | Event::StateUntold { run: false, .. } => draft.load(chance.below(2)),
         Event::Loaded { traced, .. } => draft.load(traced as u64),
         _ => {
             draft.run(chance.pick(&[0, 77, 200]), bad.budget, chance.below(2));
@@ -141,6 +151,23 @@ fn break_more(event: Event, draft: &mut Draft, bad: &mut Given, chance: &mut Cha
         bad.state.reader = chance.pick(&[bad.state.reader, 1, u64::MAX]);
         bad.numbers = chance.pick(&[NUMBERS, NUMBERS, NUMBERS + 1]);
     }
+}
+
+/// A deck that is refused with this number.
+fn break_deck(number: u64, draft: &mut Draft, bad: &mut Given, chance: &mut Chance) {
+    let mut lines = FAULTS.map(Reason::Deck).to_vec();
+    lines.retain(|line| line.number() == number);
+    break_line(chance.pick(&lines), draft, bad, chance);
+}
+
+/// A line of 12 that is judged behind the deck, whatever deck it is.
+fn line_behind_deck(run: bool, chance: &mut Chance) -> Reason {
+    let mut lines = LENGTHS.map(Reason::StateLength).to_vec();
+    if run {
+        lines.extend(lines_of_12());
+        lines.retain(|line| !matches!(line, Reason::ReaderAstray(_)));
+    }
+    chance.pick(&lines)
 }
 
 /// One line of 12 that no other can mend, and then some others.
