@@ -18,6 +18,7 @@ use crate::sessions::no_marks;
 use crate::sessions::run_as;
 use crate::telling::tell;
 use crate::telling::tell_bar;
+use crate::telling::tell_refused;
 use crate::words::name_at;
 use calls::Options;
 use disk::Filled;
@@ -120,7 +121,7 @@ fn load_on(path: &[u8], deck: &[u8], options: Options) {
         Loading::Loaded => {
             keep(path, &drum, &marks, after);
         }
-        Loading::NotLoaded(b) => tell_bar(b),
+        Loading::NotLoaded(b) => tell_refused(b, deck),
     }
 }
 
@@ -140,17 +141,17 @@ fn run_on(path: &[u8], deck: &[u8], options: Options) {
         says::kept(path);
         return;
     }
-    finish(path, &drum, &marks, g);
+    finish(path, &drum, &marks, deck, g);
 }
 
 // After a run on a machine file: it is replaced, and the Z card is sent; or the run was refused at its entry, and its line is sent.
-fn finish(path: &[u8], drum: &[u64], marks: &[u8], g: Gone)
+fn finish(path: &[u8], drum: &[u64], marks: &[u8], deck: &[u8], g: Gone)
     requires { ⌜ mayClose (g .ending) (g .state) (g .count) ≡ true ⌝ }
 {
     let ending = g.ending;
     let state = g.state;
     match ending {
-        Ending::NotRun(b) => tell_bar(b),
+        Ending::NotRun(b) => tell_refused(b, deck),
         Ending::Ran(_) => {
             if keep(path, drum, marks, state) {
                 if !tell(ending, state, g.count) {

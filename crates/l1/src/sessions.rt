@@ -11,7 +11,7 @@ ghost use Rattle.l1.specs.Going.{mayRefill, goneOn, WentOn};
 ghost use Rattle.l1.specs.New.{zeros};
 use crate::telling::send_cards;
 use crate::telling::tell;
-use crate::telling::tell_bar;
+use crate::telling::tell_refused;
 use calls::Options;
 use calls::is_traced;
 use calls::switches_of;
@@ -166,7 +166,7 @@ fn play(deck: &[u8], options: Options) {
     let loading = x.loading;
     let state = x.state;
     match loading {
-        Loading::NotLoaded(b) => tell_bar(b),
+        Loading::NotLoaded(b) => tell_refused(b, deck),
         Loading::Loaded => play_on(&mut drum, &mut marks, deck, state, options),
     }
 }

@@ -1,15 +1,18 @@
-// What is told on standard output: cards, the Z card, the line of a refused call, the lines of cells, and that a deck is good.
+// What is told on standard output: cards, the Z card, the line of a refused call, the lines of cells, and that a deck is good. On standard
+// error, what is wrong with a deck.
 ghost use mathlib.Core.Path.{_≡_};
 ghost use mathlib.Core.Bool.{true};
 ghost use Prim.Native.Nat.{_≤_};
 ghost use lib.ListN.{length};
 ghost use Rattle.rules.specs.Drum.{view};
 ghost use Rattle.rules.specs.Sheet.{closing};
+ghost use Rattle.faults.specs.Sentences.{deckLine};
 ghost use Rattle.list.specs.Marked.{markedLines};
 ghost use Rattle.says.specs.Told.{mayClose};
 use machine::Ran;
 use rules::Bar;
 use rules::Deck;
+use rules::DeckFault;
 use rules::Ending;
 use rules::State;
 use shows::send;
@@ -49,8 +52,33 @@ pub fn tell_bar(bar: Bar) {
     tell(Ending::NotRun(bar), states::none(), 0);
 }
 
+// A line that says what is wrong with a deck, on standard error.
+fn say_fault(line: &[u8], deck: &[u8], fault: DeckFault)
+    requires { ⌜ now line ≡ deckLine (now deck) fault ⌝ }
+{
+    says::wrong(line);
+}
+
+// What is wrong with a deck, as a sentence.
+fn explain(deck: &[u8], fault: DeckFault) {
+    let line = faults::of_deck(deck, fault);
+    let text = line.bytes;
+    let n = line.size;
+    say_fault(&text[..n], deck, fault);
+}
+
+// The line of a call that was refused at its entry. Where that is for its deck, the sentence that says why comes before it.
+pub fn tell_refused(bar: Bar, deck: &[u8]) {
+    match bar {
+        Bar::BadDeck(f) => explain(deck, f),
+        Bar::BadDrum => (),
+        Bar::BadState => (),
+    }
+    tell_bar(bar);
+}
+
 // What the check of a deck found.
-fn tell_deck(found: Deck) {
+fn tell_deck(found: Deck, deck: &[u8]) {
     match found {
         Deck::Good {
             behind: _,
@@ -59,7 +87,7 @@ fn tell_deck(found: Deck) {
         } => {
             send(b"good");
         }
-        Deck::Faulty(f) => tell_bar(Bar::BadDeck(f)),
+        Deck::Faulty(f) => tell_refused(Bar::BadDeck(f), deck),
     }
 }
 
@@ -71,5 +99,5 @@ pub fn check_deck(path: &[u8]) {
         return;
     }
     let n = deck.count;
-    tell_deck(card::check_deck(&room[..n]));
+    tell_deck(card::check_deck(&room[..n]), &room[..n]);
 }

@@ -17,3 +17,4 @@ pub use texts::replaced;
 pub use texts::too_long;
 pub use texts::unknown;
 pub use texts::usage;
+pub use texts::wrong;

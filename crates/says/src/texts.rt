@@ -78,6 +78,12 @@ pub fn refused(word: &[u8], trouble: Trouble) {
     }
 }
 
+// A line that says what is wrong with a deck.
+pub fn wrong(line: &[u8]) {
+    say(b"l1: ");
+    say(line);
+}
+
 // That a name is missing.
 pub fn missing() {
     say(b"l1: a file's name is missing\n");
