@@ -8,7 +8,7 @@ use lib.Seq.{take-at}
 use Rattle.rules.specs.Cards.{digits, width}
 use Rattle.rules.specs.Running.{over}
 use Rattle.rules.proofs.Digits.{length-digits}
-use Rattle.bytes.specs.Put.{splice, putAt}
+use Rattle.bytes.specs.Put.{putAt}
 use Rattle.bytes.proofs.Splices.{splice-start}
 use Rattle.bytes.proofs.Joins.{Put, part-begin, put-fits, put-more, put-over}
 use Rattle.rules.specs.declared.Fault.{Fault}

@@ -1,6 +1,6 @@
 // Which card of a deck it is.
 ghost use mathlib.Core.Path.{_≡_};
-ghost use Prim.Native.Nat.{_+_, _≤_};
+ghost use Prim.Native.Nat.{_+_};
 ghost use Rattle.rules.specs.Decks.{cardAt, cardSize, cardsFrom};
 ghost use Rattle.faults.specs.Sentences.{countBefore, placeBehind, cardFromStart};
 use rules::Card;

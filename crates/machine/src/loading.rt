@@ -8,7 +8,7 @@ use rules::Deck;
 use rules::Loading;
 use rules::State;
 
-// Checks 10 and 11 come first, and a call that one of them refuses changes nothing.
+// Check 10 and the check of the deck come first, and a call that one of them refuses changes nothing.
 pub fn load(drum: &mut [u64], marks: &mut [u8], deck: &[u8], state: State, traced: bool) -> Loaded
     ensures { λ r. ⌜ LoadRight
         (loaded (record { drum = now (drum .entry); marks = now (marks .entry); deck = now (deck .entry); state = state; traced = traced }))

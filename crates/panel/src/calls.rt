@@ -48,7 +48,7 @@ fn ending_told(x: Ending, count: u64, written: usize) -> Ended
     }
 }
 
-// Why a call is refused that brings no state: check 10, check 11, or else check 12.
+// Why a call is refused that brings no state: check 10, the check of the deck, or else check 12.
 fn why_barred(drum: &[u64], marks: &[u8], deck: &[u8]) -> Bar
     ensures { λ r. ⌜ r ≡ barred (now (drum .entry)) (now (marks .entry)) (now (deck .entry)) ⌝ }
 {

@@ -29,7 +29,7 @@ pub struct Summed {
     pub lost: u64,
 }
 
-// What the check of a deck tells: 0 and 0, or 11 and a place in the deck. What a load tells: 0 and 0, or why it is refused.
+// What the check of a deck tells: 0 and 0, or the number and the place of its first fault. What a load tells: 0 and 0, or why it is refused.
 #[repr(C)]
 pub struct Place {
     pub number: u64,

@@ -72,7 +72,7 @@ unfoldable pub width : ℕ → ℕ → ℕ
 width zero x = 1
 width (suc n) x = pick (ltb x 10) 1 (suc (width n (x / 10)))
 
--- what the program writes for 10, 11 and 12: the number, a space and the place
+-- what the program writes of a call that is refused at its entry: the number, a space and the place
 unfoldable pub refusalLine : ℕ → ℕ → List ℕ
 refusalLine number place = digits (width 20 number) number ++ spaceByte ∷ digits (width 20 place) place
 

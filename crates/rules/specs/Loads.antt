@@ -68,7 +68,7 @@ loadedFrom c (Good behind order problem) =
       marks = marksOf v;
     }
 
--- the checks 10 and 11 in their order, and then the load
+-- check 10 and that of the deck in their order, and then the load
 unfoldable pub loaded : LoadCall → LoadResult
 loaded c =
     pick (drumFits (length (c .drum)) (c .marks) (view (c .drum) (c .marks))) (loadedFrom c (deckOf (c .deck))) (notLoaded c BadDrum)

@@ -204,7 +204,7 @@ ranOn q c (Good behind order problem) =
     (ranAs c (runFrom (inputsBy q c) (c .budget) (begun c) 0))
     (notRun c BadState)
 
--- the checks 10, 11, 12 in their order, and then the run, by these requests
+-- check 10, that of the deck and check 12 in their order, and then the run, by these requests
 unfoldable pub ranBy : Requests → RunCall → RunResult
 ranBy q c = pick (drumFits (length (c .drum)) (c .marks) (view (c .drum) (c .marks))) (ranOn q c (deckOf (c .deck))) (notRun c BadDrum)
 

@@ -1,6 +1,6 @@
 -- `faults::layout::field_at` meets its contract, by the kind. Assumes nothing.
 use Prim.Native.Nat.{ℕ}
-use mathlib.Core.Path.{sym, ap, _∙_}
+use mathlib.Core.Path.{ap, _∙_}
 use borrow.Author.Tests.{eq-eqb, ne-eqb, lt-ltb, le-ltb}
 use Rattle.faults.specs.Sentences.{dataField, fieldAt}
 use borrow.Author.Needs.{needs}

@@ -1,6 +1,5 @@
 -- `faults::layout::stop_field` meets its contract: its tests are those of the definition. Assumes nothing.
 use borrow.Author.Tests.{lt-ltb, le-ltb}
-use borrow.Author.Needs.{needs}
 use Rattle.faults.proofs.layout.stop_field.Statement.{statement}
 use Rattle.faults.proofs.layout.stop_field.Tie as tie
 

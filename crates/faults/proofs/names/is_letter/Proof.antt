@@ -2,7 +2,6 @@
 use native.Mathlib.Nat.{le-of-suc-le-suc}
 use native.Mathlib.Omega.{arith}
 use borrow.Author.Tests.{le-leb, lt-leb}
-use borrow.Author.Needs.{needs}
 use Rattle.faults.proofs.names.is_letter.Statement.{statement}
 use Rattle.faults.proofs.names.is_letter.Tie as tie
 

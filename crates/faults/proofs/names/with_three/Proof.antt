@@ -1,5 +1,5 @@
 -- `faults::names::with_three` meets its contract: the digits fill their room. Assumes nothing.
-use mathlib.Core.Path.{refl, _∙_}
+use mathlib.Core.Path.{_∙_}
 use Rattle.rules.proofs.Digits.{length-digits}
 use Rattle.bytes.proofs.Joins.{put-all}
 use Rattle.faults.proofs.Says.{adds-as}

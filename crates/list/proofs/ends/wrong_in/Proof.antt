@@ -1,8 +1,6 @@
 -- `list::ends::wrong_in` meets its contract, by the kind. Assumes nothing.
-use Prim.Native.Nat.{ℕ}
-use mathlib.Core.Path.{_≡_, sym, ap, _∙_}
+use mathlib.Core.Path.{sym, ap, _∙_}
 use borrow.Author.Tests.{eq-eqb, ne-eqb, lt-ltb, le-ltb}
-use lib.ListN.{getD}
 use Rattle.rules.specs.declared.Fault.the-variants.{BadByte}
 use Rattle.rules.specs.declared.Card.the-variants.{Bad}
 use Rattle.list.specs.Listing.{wrongIn}

@@ -1,7 +1,6 @@
 -- `shows::cards::list_all` ends: it counts its turns down. Assumes nothing.
 use mathlib.Core.Path.{_≡_}
 use Prim.Native.Nat.{_≤_}
-use native.Mathlib.Omega.{arith}
 use lib.ListN.{length}
 use borrow.Author.Needs.{needs}
 use Rattle.shows.proofs.cards.list_all.Statement.{statement}
