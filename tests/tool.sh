@@ -168,7 +168,7 @@ rooms() {
     awk 'BEGIN { for (t = 1; t <= 2000; t++) printf "trace %04d  at 101  problem 007\n  as stored  +0203000101  TR              000 101\n" \
         "  as done    +0203000101  TR              000 101\n  loop box   000 000 000\n  A'"'"'s word   +0000000000\n" \
         "  B'"'"'s word   +0000000000\n  cell 000   +0000000000\n", t }' >expected
-    echo 'not a card at byte 154000' >>expected
+    echo 'card 2001, its card number: a digit is due at byte 154001, and the file ends there; the card begins at byte 154000' >>expected
     { cat out; printf 'X'; } >cards
     l1 list cards >listed 2>err || fail 'ended badly'
     same 'a long listing' expected listed
