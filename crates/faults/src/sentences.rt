@@ -1,4 +1,4 @@
-// The sentences.
+// The sentence for each fault of a card and of a deck, text behind text.
 ghost use mathlib.Core.Path.{_≡_};
 ghost use Prim.Native.Nat.{_-_};
 ghost use lib.ListN.{take, drop};
