@@ -1,22 +1,22 @@
 -- The check of a deck, as a loop goes through its cards: what is left to check has the answer of the whole. Assumes nothing.
 use mathlib.Core.Path.{_≡_, refl, sym, ap, ap₂, _∙_}
-use mathlib.Core.List.{List, _∷_}
+use mathlib.Core.List.{List}
 use mathlib.Core.Bool.{Bool, true, false}
 use Prim.Native.Nat.{ℕ, _+_, _-_, _≤_, _<_}
-use native.Mathlib.Nat.{pos-of-ne-zero}
 use native.Mathlib.Omega.{arith}
 use lib.ListN.{length, getD, take, drop, length-drop}
 use lib.Seq.{take-all}
 use borrow.Author.Tests.{lt-ltb, le-ltb}
 use Rattle.rules.specs.Cards.{numberIn, badFrom, cellsFit, cardOf}
-use Rattle.rules.specs.Decks.{cardSize, Piece, cardsFrom, met, checkedFrom, deckOf}
+use Rattle.rules.specs.Decks.{cardAt, Piece, cardsFrom, met, checkedFrom, deckOf}
 use Rattle.rules.specs.declared.Fault.{Fault}
 use Rattle.rules.specs.declared.Fault.the-variants.{UnknownKind, SecondFirst, CutShort, BadByte, BadPlace}
-use Rattle.rules.specs.declared.Card.the-variants.{Data, First, Bad}
+use Rattle.rules.specs.declared.Card.{Card}
+use Rattle.rules.specs.declared.Card.the-variants.{First, Bad}
 use Rattle.rules.specs.declared.DeckFault.the-variants.{TooLong, At, NoFirst}
 use Rattle.rules.specs.declared.Deck.{Deck}
 use Rattle.rules.specs.declared.Deck.the-variants.{Good, Faulty}
-use Rattle.rules.proofs.Decks.{piece, cards-some, cards-next, cards-end}
+use Rattle.rules.proofs.Decks.{piece, cards-end, from-bad, from-data, from-first}
 use Rattle.card.specs.declared.fields.Form.{Form}
 use Rattle.card.specs.Forms.{formOf, isSecond}
 use Rattle.card.proofs.Forms.{Begun, Whole, first-size, card-unknown, card-cut, card-byte, card-place, card-first, card-data}
@@ -41,21 +41,6 @@ met-other : (sofar : Deck) (p : Piece) → isSecond sofar (getD (p .rest) 0 0) �
 met-other (Good behind order problem) p e = rw e
 met-other (Faulty f) p e = refl
 
-from-bad : (sofar : Deck) (p : Piece) (ps : List Piece) (f : Fault) (b : ℕ) → met sofar p ≡ Bad f b
-    → checkedFrom sofar (p ∷ ps) ≡ Faulty (At (p .place) f (p .place + b))
-unfolding checkedFrom
-from-bad sofar p ps f b e = rw (e, checkedFrom)
-
-from-data : (sofar : Deck) (p : Piece) (ps : List Piece) {number location words problem size : ℕ} → met sofar p ≡ Data number location words problem size
-    → checkedFrom sofar (p ∷ ps) ≡ checkedFrom sofar ps
-unfolding checkedFrom
-from-data sofar p ps e = rw (e, checkedFrom)
-
-from-first : (sofar : Deck) (p : Piece) (ps : List Piece) {order problem : ℕ} → met sofar p ≡ First order problem
-    → checkedFrom sofar (p ∷ ps) ≡ checkedFrom (Good (p .place + 7) order problem) ps
-unfolding checkedFrom
-from-first sofar p ps e = rw (e, checkedFrom)
-
 -- ---- the loop
 
 -- the cards before `at` are good, and sofar is the answer if no more come
@@ -78,9 +63,7 @@ module _ {deck : List ℕ} {at : ℕ} {sofar : Deck} (h : Checking deck at sofar
   check-end l = sym (ap (checkedFrom sofar) (cards-end deck at l)) ∙ h .same
 
   bad-here : at < length deck → (f : Fault) (b : ℕ) → met sofar (piece at (drop at deck)) ≡ Bad f b → Faulty (At at f (at + b)) ≡ deckOf deck
-  bad-here l f b e =
-      let s = cards-some deck at l in
-      sym (ap (checkedFrom sofar) (s .1) ∙ from-bad sofar (piece at (drop at deck)) (s .0) f b e) ∙ h .same
+  bad-here l f b e = sym (from-bad deck at sofar l f b e) ∙ h .same
 
   pub check-second : at < length deck → isSecond sofar (getD (part deck at) 0 0) ≡ true → Faulty (At at SecondFirst at) ≡ deckOf deck
   check-second l s =
@@ -99,23 +82,20 @@ module _ {deck : List ℕ} {at : ℕ} {sofar : Deck} {f : Form} (h : Met deck at
   begun : Begun (part deck at) f
   begun = record { some = λ z. omega (arith, length-part deck at, h .here); form = h .form }
 
-  is-met : met sofar (piece at (drop at deck)) ≡ cardOf (part deck at)
-  is-met =
-      met-other sofar (piece at (drop at deck)) (ap (λ (d : List ℕ). isSecond sofar (getD d 0 0)) (sym (part-is deck at)) ∙ h .other)
-      ∙ ap cardOf (sym (part-is deck at))
+  is-met : met sofar (piece at (drop at deck)) ≡ cardAt deck at
+  is-met = met-other sofar (piece at (drop at deck)) (ap (λ (d : List ℕ). isSecond sofar (getD d 0 0)) (sym (part-is deck at)) ∙ h .other)
+
+  card-is : {c : Card} → cardOf (part deck at) ≡ c → cardAt deck at ≡ c
+  card-is e = ap cardOf (sym (part-is deck at)) ∙ e
 
   fault : (k : Fault) (b byte : ℕ) → cardOf (part deck at) ≡ Bad k b → byte ≡ at + b → Faulty (At at k byte) ≡ deckOf deck
-  fault k b byte e q = ap (λ (y : ℕ). Faulty (At at k y)) q ∙ bad-here (h .checking) (h .here) k b (is-met ∙ e)
+  fault k b byte e q = ap (λ (y : ℕ). Faulty (At at k y)) q ∙ bad-here (h .checking) (h .here) k b (is-met ∙ card-is e)
 
   pub check-unknown : f .size ≡ 0 → Faulty (At at UnknownKind at) ≡ deckOf deck
   check-unknown z = fault UnknownKind 0 at (card-unknown begun z) (omega arith)
 
   pub check-cut : (f .size ≡ 0 → ⊥) → length (part deck at) < f .size → Faulty (At at CutShort at) ≡ deckOf deck
   check-cut n l = fault CutShort 0 at (card-cut begun n l) (omega arith)
-
-  -- where the card ends, the check goes on
-  next-is : (size : ℕ) → cardSize (cardOf (part deck at)) ≡ size → 1 ≤ size → cardsFrom deck at ≡ piece at (drop at deck) ∷ cardsFrom deck (at + size)
-  next-is size e = cards-next deck at size (ap (λ (d : List ℕ). cardSize (cardOf d)) (sym (part-is deck at)) ∙ e)
 
 -- its kind stands in decks, and its bytes are there
 pub record Long (deck : List ℕ) (at : ℕ) (sofar : Deck) (f : Form) : Type 0 where
@@ -147,28 +127,19 @@ module _ {deck : List ℕ} {at : ℕ} {sofar : Deck} {f : Form} (h : Long deck a
 
       pub check-data : (getD (part deck at) 0 0 ≡ 84 → ⊥) → Checking deck (at + f .size) sofar
       check-data k =
-          let c = card-data looked l (fit true q) k in
-          record {
-            short = short;
-            within = within;
-            same =
-                sym (ap (checkedFrom sofar) (next-is (h .met) (f .size) (ap cardSize c) (pos-of-ne-zero (h .known)))
-                ∙ from-data sofar (piece at (drop at deck)) (cardsFrom deck (at + f .size)) (is-met (h .met) ∙ c))
-                ∙ h .met .checking .same;
-          }
+          let c = card-is (h .met) (card-data looked l (fit true q) k) in
+          record { short = short; within = within; same = sym (from-data deck at sofar (is-met (h .met)) c) ∙ h .met .checking .same }
 
       pub check-first : getD (part deck at) 0 0 ≡ 84 → {problem : ℕ} → problem ≡ numberIn (part deck at) 4 3
           → Checking deck (at + f .size) (Good (at + f .size) location problem)
       check-first k {problem} p =
           let s : f .size ≡ 7 = first-size f (getD (part deck at) 0 0) (h .met .form) k in
-          let c : cardOf (part deck at) ≡ First location problem =
-          card-first looked l (fit true q) k ∙ ap₂ First (sym n) (sym p) in
+          let c : cardAt deck at ≡ First location problem = card-is (h .met) (card-first looked l (fit true q) k ∙ ap₂ First (sym n) (sym p)) in
           record {
             short = short;
             within = within;
             same =
                 ap (λ (n : ℕ). checkedFrom (Good (at + n) location problem) (cardsFrom deck (at + n))) s
-                ∙ sym (ap (checkedFrom sofar) (next-is (h .met) 7 (ap cardSize c) (omega arith))
-                ∙ from-first sofar (piece at (drop at deck)) (cardsFrom deck (at + 7)) (is-met (h .met) ∙ c))
+                ∙ sym (from-first deck at sofar (is-met (h .met)) c)
                 ∙ h .met .checking .same;
           }

@@ -1,5 +1,5 @@
 -- The check of a deck, card by card along cards that are as due; and what is told of each thing that may be wrong behind them. Assumes nothing.
-use Prim.Native.Nat.{ℕ, _+_, _≤_, _<_}
+use Prim.Native.Nat.{ℕ, _+_, _≤_}
 use mathlib.Core.Path.{_≡_, refl, sym, ap, subst, _∙_}
 use mathlib.Core.List.{List}
 use mathlib.Core.Bool.{Bool, true, false}
@@ -7,20 +7,19 @@ use native.Mathlib.Nat.{add-zero}
 use native.Mathlib.Omega.{arith}
 use lib.Dec.{eqb}
 use lib.ListN.{length, getD, drop}
-use lib.Seq.{getD-drop}
-use borrow.Author.Tests.{lt-ltb, le-ltb, eq-eqb}
+use borrow.Author.Tests.{lt-ltb, le-ltb, eq-eqb, eqb-true}
 use Rattle.rules.specs.Words.{pick}
 use Rattle.rules.specs.Cards.{firstKind, firstSize}
-use Rattle.rules.specs.Decks.{cardAt, cardSize, cardsFrom, met, checkedFrom, deckOf}
+use Rattle.rules.specs.Decks.{cardAt, cardsFrom, met, checkedFrom, deckOf}
 use Rattle.rules.specs.declared.Fault.{Fault}
 use Rattle.rules.specs.declared.Fault.the-variants.{UnknownKind, SecondFirst, CutShort, BadByte, BadPlace}
-use Rattle.rules.specs.declared.Card.the-variants.{Data, First, Bad}
+use Rattle.rules.specs.declared.Card.the-variants.{Bad}
 use Rattle.rules.specs.declared.DeckFault.the-variants.{TooLong, At, NoFirst}
 use Rattle.rules.specs.declared.Deck.{Deck}
 use Rattle.rules.specs.declared.Deck.the-variants.{Good, Faulty}
-use Rattle.rules.proofs.Decks.{piece, cards-next, cards-some, cards-end}
+use Rattle.rules.proofs.Decks.{piece, cards-end, from-bad, from-data, from-first}
 use Rattle.promises.specs.DeckFaults.{bytesOf, fieldOf, byteAt, AsDue, firsts, Reached, from-start, one-more, Met, UnknownKindAt, CutShortAt, BadByteAt, OutOfRangeAt, SecondFirstAt, NoFirstIn, TooLongAt, GoodDeck}
-use Rattle.promises.proofs.CardFaults.{card-unknown, card-cut, card-byte, card-place, first-due, first-size, data-due}
+use Rattle.promises.proofs.CardFaults.{kind-left, card-unknown, card-cut, card-byte, card-place, first-due, data-due}
 
 -- ---- behind t first-order cards
 
@@ -30,9 +29,6 @@ Stands deck t (Good behind order problem) = t ≡ 1
 Stands deck t (Faulty f) = (t ≡ 0) × (Faulty f ≡ Faulty (NoFirst (length deck)))
 
 module _ (deck : List ℕ) (p : ℕ) where
-  kind-left : getD (drop p deck) 0 0 ≡ byteAt deck p
-  kind-left = getD-drop p deck 0 0 ∙ ap (byteAt deck) (add-zero p)
-
   no-first-more : (t : ℕ) → t ≡ 1 → t + firsts deck p ≤ 1 → (b : Bool) → eqb (byteAt deck p) firstKind ≡ b → b ≡ false
   no-first-more t s l true e = absurd (let z : firsts deck p ≡ 1 = ap (λ (b : Bool). pick b 1 0) e in let y : ⊥ = omega arith in y)
   no-first-more t s l false e = refl
@@ -40,32 +36,13 @@ module _ (deck : List ℕ) (p : ℕ) where
   met-other : (t : ℕ) (sofar : Deck) → Stands deck t sofar → t + firsts deck p ≤ 1 → met sofar (piece p (drop p deck)) ≡ cardAt deck p
   met-other t (Good behind order problem) s l =
       ap (λ (b : Bool). pick b (Bad SecondFirst 0) (cardAt deck p))
-      (ap (λ (k : ℕ). eqb k firstKind) kind-left ∙ no-first-more t s l (eqb (byteAt deck p) firstKind) refl)
+      (ap (λ (k : ℕ). eqb k firstKind) (kind-left deck p) ∙ no-first-more t s l (eqb (byteAt deck p) firstKind) refl)
   met-other t (Faulty f) s l = refl
 
   met-second : (sofar : Deck) → Stands deck 1 sofar → byteAt deck p ≡ firstKind → met sofar (piece p (drop p deck)) ≡ Bad SecondFirst 0
   met-second (Good behind order problem) s e =
-      ap (λ (b : Bool). pick b (Bad SecondFirst 0) (cardAt deck p)) (eq-eqb (getD (drop p deck) 0 0) firstKind (kind-left ∙ e))
+      ap (λ (b : Bool). pick b (Bad SecondFirst 0) (cardAt deck p)) (eq-eqb (getD (drop p deck) 0 0) firstKind (kind-left deck p ∙ e))
   met-second (Faulty f) s e = absurd (let z : ⊥ = omega arith in z)
-
-  -- ---- one card
-
-  module _ (sofar : Deck) where
-    bad-next : p < length deck → (f : Fault) (b : ℕ) → met sofar (piece p (drop p deck)) ≡ Bad f b
-        → checkedFrom sofar (cardsFrom deck p) ≡ Faulty (At p f (p + b))
-    unfolding checkedFrom
-    bad-next here f b e = ap (checkedFrom sofar) (cards-some deck p here .1) ∙ rw (e, checkedFrom)
-
-    data-next : (number location words problem size : ℕ) → met sofar (piece p (drop p deck)) ≡ Data number location words problem size → 1 ≤ size
-        → cardSize (cardAt deck p) ≡ size
-        → checkedFrom sofar (cardsFrom deck p) ≡ checkedFrom sofar (cardsFrom deck (p + size))
-    unfolding checkedFrom
-    data-next number location words problem size e l s = ap (checkedFrom sofar) (cards-next deck p size s l) ∙ rw (e, checkedFrom)
-
-    first-next : (order problem : ℕ) → met sofar (piece p (drop p deck)) ≡ First order problem → cardSize (cardAt deck p) ≡ firstSize
-        → checkedFrom sofar (cardsFrom deck p) ≡ checkedFrom (Good (p + firstSize) order problem) (cardsFrom deck (p + firstSize))
-    unfolding checkedFrom
-    first-next order problem e s = ap (checkedFrom sofar) (cards-next deck p firstSize s (omega arith)) ∙ rw (e, checkedFrom)
 
 -- ---- the cards before a place
 
@@ -83,22 +60,23 @@ next deck p t h l w = by-kind (eqb (byteAt deck p) firstKind) refl
 
     by-kind : (b : Bool) → eqb (byteAt deck p) firstKind ≡ b → Walked deck (p + bytesOf (byteAt deck p)) (t + firsts deck p)
     by-kind true e =
-        let c = first-due h e in
+        let c = first-due deck p (omega arith) (h .known) (h .whole) (h .due) (h .in-range) e in
         let one : firsts deck p ≡ 1 = ap (λ (b : Bool). pick b 1 0) e in
         record {
           sofar = Good (p + firstSize) (c .0) (c .1);
           same =
               w .same
-              ∙ first-next deck p (w .sofar) (c .0) (c .1) (is-met ∙ c .2) (ap cardSize (c .2))
-              ∙ ap (λ (n : ℕ). checkedFrom (Good (p + firstSize) (c .0) (c .1)) (cardsFrom deck (p + n))) (sym (first-size h e));
+              ∙ from-first deck p (w .sofar) is-met (c .2)
+              ∙ ap (λ (k : ℕ). checkedFrom (Good (p + firstSize) (c .0) (c .1)) (cardsFrom deck (p + bytesOf k)))
+              (sym (eqb-true (byteAt deck p) firstKind e));
           stands = omega arith;
         }
     by-kind false e =
-        let c = data-due h e in
+        let c = data-due deck p (omega arith) (h .known) (h .whole) (h .due) (h .in-range) e in
         let none : firsts deck p ≡ 0 = ap (λ (b : Bool). pick b 1 0) e in
         record {
           sofar = w .sofar;
-          same = w .same ∙ data-next deck p (w .sofar) _ _ _ _ _ (is-met ∙ c .4) (h .known) (ap cardSize (c .4));
+          same = w .same ∙ from-data deck p (w .sofar) is-met (c .4);
           stands = subst (λ (n : ℕ). Stands deck n (w .sofar)) (omega arith) (w .stands);
         }
 
@@ -142,7 +120,7 @@ pub told-second : {deck : List ℕ} {place : ℕ} → SecondFirstAt deck place �
 told-second {deck} {place} h =
     let w = walked (h .short) (h .before) in
     w .same
-    ∙ bad-next deck place (w .sofar) (omega arith) SecondFirst 0 (met-second deck place (w .sofar) (w .stands) (h .again))
+    ∙ from-bad deck place (w .sofar) (omega arith) SecondFirst 0 (met-second deck place (w .sofar) (w .stands) (h .again))
     ∙ ap (λ (b : ℕ). Faulty (At place SecondFirst b)) (add-zero place)
 
 -- of a card that is looked at, its fault and the byte
@@ -151,7 +129,7 @@ told-bad : {deck : List ℕ} {p : ℕ} → Met deck p → (f : Fault) (b : ℕ) 
 told-bad {deck} {p} h f b e there =
     let w = walked (h .short) (h .before) in
     w .same
-    ∙ bad-next deck p (w .sofar) (h .here) f b (met-other deck p (h .firsts-before) (w .sofar) (w .stands) (h .no-second) ∙ e)
+    ∙ from-bad deck p (w .sofar) (h .here) f b (met-other deck p (h .firsts-before) (w .sofar) (w .stands) (h .no-second) ∙ e)
     ∙ ap (λ (b : ℕ). Faulty (At p f b)) (sym there)
 
 module _ {deck : List ℕ} {place : ℕ} where

@@ -1,17 +1,22 @@
--- A deck cut into its cards, card by card: what comes of the cards from a place on, by the card that begins there. Assumes nothing.
+-- A deck cut into its cards, card by card: what comes of the cards from a place on, and of their check, by the card that begins there.
+-- Assumes nothing.
 use Prim.Native.Nat.{ℕ, zero, suc, _+_, _*_, _≤_, _<_}
 use native.Mathlib.Omega.{arith}
-use mathlib.Core.Path.{_≡_, refl, sym, ap, _∙_}
+use mathlib.Core.Path.{_≡_, refl, ap, _∙_}
 use mathlib.Core.Logic.{⊎-elim}
 use mathlib.Core.List.{List, [], _∷_}
 use lib.ListN.{length, drop, length-drop, drop-of-length-le}
 use lib.Seq.{drop-drop}
 use types.Run.{OneOf}
 use denote.Enum.Declared.{tagOf}
-use Rattle.rules.specs.Cards.{cardOf, wordIn, wordPlace}
-use Rattle.rules.specs.Decks.{cardAt, cardSize, Piece, cutFrom, cardsFrom, DataCard, dataIn, dataFrom}
+use Rattle.rules.specs.Cards.{firstSize, cardOf, wordIn, wordPlace}
+use Rattle.rules.specs.Decks.{cardAt, cardSize, Piece, cutFrom, cardsFrom, met, checkedFrom, dataIn, dataFrom}
+use Rattle.rules.specs.declared.Fault.{Fault}
 use Rattle.rules.specs.declared.Card.{Card}
 use Rattle.rules.specs.declared.Card.the-variants.{Data, First, Bad, End}
+use Rattle.rules.specs.declared.DeckFault.the-variants.{At}
+use Rattle.rules.specs.declared.Deck.{Deck}
+use Rattle.rules.specs.declared.Deck.the-variants.{Good, Faulty}
 use Rattle.rules.proofs.Card.{the-type}
 use Rattle.rules.proofs.CardTrips.{data-read}
 use Rattle.rules.proofs.Fields.{word-below}
@@ -98,3 +103,24 @@ none-in at (b ∷ d) End t q = rw (q, dataIn)
 
 pub data-none : (deck : List ℕ) (at : ℕ) (x : Card) → Other x → cardAt deck at ≡ x → dataFrom deck at ≡ []
 data-none deck at = none-in at (drop at deck)
+
+-- ---- the check from a place on
+
+-- it ends at a card with a fault, and else goes on behind the card that is met
+module _ (deck : List ℕ) (at : ℕ) (sofar : Deck) where
+  pub from-bad : at < length deck → (f : Fault) (b : ℕ) → met sofar (piece at (drop at deck)) ≡ Bad f b
+      → checkedFrom sofar (cardsFrom deck at) ≡ Faulty (At at f (at + b))
+  unfolding checkedFrom
+  from-bad here f b e = ap (checkedFrom sofar) (cards-some deck at here .1) ∙ rw (e, checkedFrom)
+
+  module _ (m : met sofar (piece at (drop at deck)) ≡ cardAt deck at) where
+    pub from-data : {number location words problem size : ℕ} → cardAt deck at ≡ Data number location words problem size
+        → checkedFrom sofar (cardsFrom deck at) ≡ checkedFrom sofar (cardsFrom deck (at + size))
+    unfolding checkedFrom
+    from-data {size = size} e =
+        ap (checkedFrom sofar) (cards-next deck at size (ap cardSize e) (data-at deck at e .long)) ∙ rw (m ∙ e, checkedFrom)
+
+    pub from-first : {order problem : ℕ} → cardAt deck at ≡ First order problem
+        → checkedFrom sofar (cardsFrom deck at) ≡ checkedFrom (Good (at + firstSize) order problem) (cardsFrom deck (at + firstSize))
+    unfolding checkedFrom
+    from-first e = ap (checkedFrom sofar) (cards-next deck at firstSize (ap cardSize e) (omega arith)) ∙ rw (m ∙ e, checkedFrom)

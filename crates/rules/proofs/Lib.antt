@@ -14,6 +14,7 @@ pub mod Digits
 pub mod Fields
 pub mod Dues
 pub mod CardTrips
+pub mod ByKind
 pub mod Decks
 pub mod Faults
 pub mod Parts

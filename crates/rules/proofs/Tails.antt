@@ -1,7 +1,7 @@
 -- Behind the first-order card of a good deck come data cards, one after another up to its end. Card by card along the deck check.
 -- Assumes nothing.
 use Prim.Native.Nat.{ℕ, zero, suc, _+_, _-_, _≤_, _<_}
-use mathlib.Core.Path.{_≡_, refl, ap, subst}
+use mathlib.Core.Path.{_≡_, refl, sym, subst, _∙_}
 use mathlib.Core.List.{List, [], _∷_}
 use mathlib.Core.Bool.{Bool, true, false}
 use native.Mathlib.Omega.{arith}
@@ -10,8 +10,8 @@ use lib.ListN.{length, getD, drop, length-drop}
 use borrow.Author.Tests.{eqb-false, ltb-true, ltb-false}
 use Rattle.rules.specs.Words.{pick}
 use Rattle.rules.specs.Cards.{zeroByte, firstKind, firstSize, dataSize, wordPlace, numberIn, badFrom, cellsFit, wholeCard, isDataKind, dataOf, firstOf, cardOf}
-use Rattle.rules.specs.Decks.{cardAt, cardSize, cardsFrom, checkedFrom, deckOf}
-use Rattle.rules.specs.declared.Fault.the-variants.{UnknownKind, CutShort, BadByte, BadPlace}
+use Rattle.rules.specs.Decks.{cardAt, cardsFrom, checkedFrom, deckOf}
+use Rattle.rules.specs.declared.Fault.the-variants.{UnknownKind, SecondFirst, CutShort, BadByte, BadPlace}
 use Rattle.rules.specs.declared.Card.{Card}
 use Rattle.rules.specs.declared.Card.the-variants.{Data, First, Bad, End}
 use Rattle.rules.specs.declared.DeckFault.{DeckFault}
@@ -19,7 +19,7 @@ use Rattle.rules.specs.declared.DeckFault.the-variants.{NoFirst}
 use Rattle.rules.specs.declared.Deck.{Deck}
 use Rattle.rules.specs.declared.Deck.the-variants.{Good, Faulty}
 use Rattle.rules.proofs.CardTrips.{first-read}
-use Rattle.rules.proofs.Decks.{cards-next, cards-some, cards-end, data-at}
+use Rattle.rules.proofs.Decks.{cards-end, data-at, from-bad, from-data, from-first}
 
 -- ---- what differs
 
@@ -95,9 +95,7 @@ module _ (deck : List ℕ) (at x o p behind order problem : ℕ) (inside : at < 
     (e : checkedFrom (Good x o p) (cardsFrom deck at) ≡ Good behind order problem) where
   by-card : (c : Card) → cardAt deck at ≡ c → (t : Bool) → eqb (getD (drop at deck) 0 0) firstKind ≡ t
       → Next deck at (Good x o p) (Good behind order problem)
-  unfolding checkedFrom
-  by-card (Data number location words posed size) q true k =
-      faulty-good (rw (cards-next deck at size (ap cardSize q) (data-at deck at q .long), k, checkedFrom) at e)
+  by-card c q true k = faulty-good (sym (from-bad deck at (Good x o p) inside SecondFirst 0 (rw k)) ∙ e)
   by-card (Data number location words posed size) q false k =
       record {
         number = number;
@@ -106,13 +104,11 @@ module _ (deck : List ℕ) (at x o p behind order problem : ℕ) (inside : at < 
         problem = posed;
         size = size;
         is-data = q;
-        goes-on = rw (cards-next deck at size (ap cardSize q) (data-at deck at q .long), k, q, checkedFrom) at e;
+        goes-on = sym (from-data deck at (Good x o p) (rw k) q) ∙ e;
       }
-  by-card (First first posed) q true k = faulty-good (rw (cards-next deck at firstSize (ap cardSize q) (omega arith), k, checkedFrom) at e)
   by-card (First first posed) q false k = absurd (eqb-false (getD (drop at deck) 0 0) firstKind k (first-read (drop at deck) first posed q .kind))
-  by-card (Bad f b) q true k = faulty-good (rw (cards-some deck at inside .1, k, checkedFrom) at e)
-  by-card (Bad f b) q false k = faulty-good (rw (cards-some deck at inside .1, k, q, checkedFrom) at e)
-  by-card End q t k = no-end (drop at deck) (omega (arith, length-drop at deck)) q
+  by-card (Bad f b) q false k = faulty-good (sym (from-bad deck at (Good x o p) inside f b (rw k q)) ∙ e)
+  by-card End q false k = no-end (drop at deck) (omega (arith, length-drop at deck)) q
 
   next-data : Next deck at (Good x o p) (Good behind order problem)
   next-data = by-card (cardAt deck at) refl (eqb (getD (drop at deck) 0 0) firstKind) refl
@@ -151,13 +147,12 @@ before-first deck (suc n) at f behind order problem l e =
         → ((size : ℕ) → 1 ≤ size → checkedFrom (Faulty f) (cardsFrom deck (at + size)) ≡ Good behind order problem → Tail deck behind)
         → (c : Card) → cardAt deck at ≡ c → Tail deck behind
     by-card inside more (Data number location words posed size) q =
-        let d = data-at deck at q in
-        more size (d .long) (rw (cards-next deck at size (ap cardSize q) (d .long), q, checkedFrom) at e)
+        more size (data-at deck at q .long) (sym (from-data deck at (Faulty f) refl q) ∙ e)
     by-card inside more (First first posed) q =
-        let g = rw (cards-next deck at firstSize (ap cardSize q) (omega arith), q, checkedFrom) at e in
+        let g = sym (from-first deck at (Faulty f) refl q) ∙ e in
         let r = behind-first deck (length deck) (at + firstSize) (at + firstSize) first posed behind order problem (omega arith) (omega (arith, first-read (drop at deck) first posed q .whole, length-drop at deck)) g in
         subst (Tail deck) (r .0) (r .1)
-    by-card inside more (Bad g b) q = faulty-good (rw (cards-some deck at inside .1, q, checkedFrom) at e)
+    by-card inside more (Bad g b) q = faulty-good (sym (from-bad deck at (Faulty f) inside g b q) ∙ e)
     by-card inside more End q = no-end (drop at deck) (omega (arith, length-drop at deck)) q
 
     by-place : (t : Bool) → ltb at (length deck) ≡ t
