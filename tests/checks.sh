@@ -23,10 +23,11 @@ proofs() {
     return 1
 }
 
-# wrong_programs: as many are refused as tests/expected has, and all. Sets refused and survived.
+# wrong_programs [PID]: as many are refused as tests/expected has, and all; where a process is named, it is the one that tries them. Sets
+# refused and survived.
 wrong_programs() {
-    tests/wrong.sh | tee "$made/wrong.out"
-    counts=$(sed -n '$s/^wrong: \([0-9]*\) refused, \([0-9]*\) not$/\1 \2/p' "$made/wrong.out")
+    if [ $# -eq 1 ]; then wait "$1"; else tests/wrong.sh; fi
+    counts=$(sed -n '$s/^wrong: \([0-9]*\) refused, \([0-9]*\) not$/\1 \2/p' "${L1_LOGS:-target/must-fail}/counted")
     refused=${counts% *} survived=${counts#* }
     refused=${refused:-0} survived=${survived:-0}
     [ "$survived" -eq 0 ] && [ "$refused" -eq "$(awk '{ n += $2 } END { print n }' tests/expected)" ] && return

@@ -24,12 +24,11 @@ build_c() {
         "$root/target/staticlib/lib$library.a"
 }
 
-# build_before NAME FILE: a C file as a library that the loader can read before the others, as $made/NAME.
+# build_before LIBRARY FILE: a C file as a library that the loader can read before the others.
 build_before() {
-    mkdir -p "$made" &&
-        "$toolchain/bin/clang" --target=x86_64-unknown-linux-gnu -ffreestanding -nostdinc -fPIC -O2 -Wall -Wextra -Werror \
-            -c "$2" -o "$made/$1.o" &&
-        "$toolchain/bin/ld.lld" -shared -o "$made/$1" "$made/$1.o"
+    "$toolchain/bin/clang" --target=x86_64-unknown-linux-gnu -ffreestanding -nostdinc -fPIC -O2 -Wall -Wextra -Werror \
+        -c "$2" -o "$1.o" &&
+        "$toolchain/bin/ld.lld" -shared -o "$1" "$1.o"
 }
 
 # exec_program PROGRAM [WORDS..]: becomes a program that is linked for x86-64; where drop is set, under that command, and where before

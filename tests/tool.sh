@@ -504,7 +504,7 @@ modes() {
 # told WORDS..: the names of the program's calls of the system, in their order, one name for several in a row; a write to an output by the
 # output's name.
 told() {
-    (before=$made/stop.so && export before L1_TOLD=1 && l1 "$@") >out 2>err 8>names 9>count || fail "l1 $*: ended badly"
+    (before=$here/stop.so && export before L1_TOLD=1 && l1 "$@") >out 2>err 8>names 9>count || fail "l1 $*: ended badly"
     [ -s names ] || fail "l1 $*: no call of the system"
     uniq <names | tr '\n' ' '
 }
@@ -523,7 +523,7 @@ in_order() {
 }
 
 order() {
-    build_before stop.so "$root/tests/tool/stop.c" || fail 'no library'
+    build_before "$here/stop.so" "$root/tests/tool/stop.c" || fail 'no library'
     in_order new m.machine = open fchmod write fsync close
     in_order load m.machine sum.deck = readlink open read close open read close mkstemp write fsync close rename
     in_order run m.machine sum.deck = readlink open read close open read close cards mkstemp write fsync close rename cards
@@ -549,7 +549,7 @@ whole() {
 
 # counted WORDS..: how many calls of the system this call makes; its outputs in new.out and err.
 counted() {
-    (before=$made/stop.so && l1 "$@") >new.out 2>err 9>count || fail "l1 $*: ended badly"
+    (before=$here/stop.so && l1 "$@") >new.out 2>err 9>count || fail "l1 $*: ended badly"
     count=$(cat count)
     [ "${count:-0}" -gt 4 ] || fail "l1 $*: ${count:-no} calls of the system"
 }
@@ -568,7 +568,7 @@ each_moment() {
 }
 
 # stopped_at WORDS..: l1 WORDS, stopped at call k.
-stopped_at() { (before=$made/stop.so && export before L1_STOP=$k L1_HOW=$how && l1 "$@") >out 2>err; }
+stopped_at() { (before=$here/stop.so && export before L1_STOP=$k L1_HOW=$how && l1 "$@") >out 2>err; }
 
 # on_old WORDS..: one moment of a call on the file old.machine as m.machine.
 on_old() {
@@ -594,7 +594,7 @@ each_call() {
     [ "$was_old" -gt 0 ] && [ "$was_new" -gt 0 ] || fail "l1 $*: old $was_old times, new $was_new times"
     # reads and writes of a few bytes each
     cp old.machine m.machine
-    (before=$made/stop.so && export before L1_SHORT=100 && l1 "$@") >out 2>err 9>count
+    (before=$here/stop.so && export before L1_SHORT=100 && l1 "$@") >out 2>err 9>count
     same "l1 $*: short writes" new.machine m.machine
     same_said "l1 $*: short writes" new.out out
     old=$((old + was_old)) new=$((new + was_new))
@@ -642,13 +642,13 @@ each_read() {
     counted "$@"
     [ -s new.out ] || fail "l1 $*: nothing comes out"
     each_moment on_read "$@"
-    (before=$made/stop.so && export before L1_SHORT=100 && l1 "$@") >out 2>err 9>count
+    (before=$here/stop.so && export before L1_SHORT=100 && l1 "$@") >out 2>err 9>count
     same "l1 $*: short writes" new.out out
 }
 
 stopped() {
     old=0 new=0 stops=0
-    build_before stop.so "$root/tests/tool/stop.c" || fail 'no library'
+    build_before "$here/stop.so" "$root/tests/tool/stop.c" || fail 'no library'
     punch_deck >punch.deck
     drawn_cells 3 >cells.text
     each_new new m.machine

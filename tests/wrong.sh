@@ -1,10 +1,13 @@
 #!/bin/sh
-# Tries the wrong programs, crates/NAME/must-fail/*.edit: each makes a wrong text of its crate, and the prover must refuse it. Behind `rt prove`.
-#   tests/wrong.sh          all of them, as many crates at a time as there are processors
-#   tests/wrong.sh NAME     those of one crate
+# Tries the wrong programs, crates/NAME/must-fail/*.edit: each makes a wrong text of its crate, and the prover must refuse it. Behind `rt prove`,
+# or beside it.
+#   tests/wrong.sh               all of them, as many crates at a time as there are processors
+#   tests/wrong.sh NAME          those of one crate
+#   tests/wrong.sh beside FILE   all of them, beside an `rt prove` from nothing that has just begun: until there is FILE, which says that it has
+#                                ended, one crate at a time, each as soon as it is proved; then the others as above
 # `rt must-fail` checks a whole crate anew for each wrong text. Here the right text is checked first, over a folder in which the prover keeps
-# what it has checked, and each wrong one over a copy of that folder: only what the edit touches is checked again. The last line counts.
-# What the prover said of each stands in target/must-fail/NAME/EDIT/.log.
+# what it has checked, and each wrong one over a copy of that folder: only what the edit touches is checked again. The last line counts, and
+# stands in target/must-fail/counted too. What the prover said of each stands in target/must-fail/NAME/EDIT/.log.
 set -u
 cd "$(dirname "$0")/.." || exit 2
 top=$(pwd -P)
@@ -89,18 +92,59 @@ of_crate() {
     [ "$failed" -eq 0 ]
 }
 
-if [ $# -eq 1 ]; then
+# the crates that have wrong programs, in the order in which they are proved
+with_edits() {
+    sed -n 's/^\([a-z0-9_]*\):.*/\1/p' crates.txt | while read -r name; do
+        ! ls "crates/$name/must-fail"/*.edit >/dev/null 2>&1 || echo "$name"
+    done
+}
+
+# upto FILE: crate by crate, each as soon as it is proved, until there is FILE; the last may still be tried then. Sets begun.
+upto() {
+    for next in $(with_edits); do
+        until [ -e "target/stamp/$next" ]; do awaited "$1" && return; done
+        ! [ -e "$1" ] || return
+        begun="$begun $next"
+        {
+            of_crate "$next"
+            : >"$logs/$next/ended"
+        } &
+        until [ -e "$logs/$next/ended" ]; do awaited "$1" && return; done
+    done
+    until awaited "$1"; do :; done
+}
+
+# awaited FILE: whether it is there; a second is given for it, and all ends where nobody is left who could make it.
+awaited() {
+    ! [ -e "$1" ] || return 0
+    kill -0 "$PPID" 2>/dev/null || exit 2
+    sleep 1
+    return 1
+}
+
+# the_rest: those that are not begun, the crates with the most first, and l1 and machine, which take longest, before all.
+the_rest() {
+    with_edits | while read -r name; do
+        case " $begun " in *" $name "*) continue ;; esac
+        weight=$(find "crates/$name/must-fail" -name '*.edit' | grep -c .)
+        case $name in l1 | machine) weight=1000 ;; esac
+        echo "$weight $name"
+    done | sort -rn | sed 's/.* //' | xargs -P "$jobs" -n 1 "$top/tests/wrong.sh"
+}
+
+begun=''
+case $# in
+0) rm -rf "${logs:?}" ;;
+1)
     of_crate "$1"
     exit
-fi
-rm -rf "${logs:?}"
-# the crates with the most first, and machine, whose right text takes longest, before all
-for folder in crates/*/must-fail; do
-    name=${folder#crates/}
-    name=${name%/must-fail}
-    weight=$(find "$folder" -name '*.edit' | grep -c .)
-    [ "$name" != machine ] || weight=1000
-    [ "$weight" -eq 0 ] || echo "$weight $name"
-done | sort -rn | sed 's/.* //' | xargs -P "$jobs" -n 1 "$top/tests/wrong.sh"
+    ;;
+*) upto "$2" ;;
+esac
+the_rest
+wait
 cat "$logs"/*/counts /dev/null 2>/dev/null | awk '{ refused += $1; failed += $2 }
-    END { print "wrong: " refused + 0 " refused, " failed + 0 " not"; exit failed || !refused }'
+    END { print "wrong: " refused + 0 " refused, " failed + 0 " not"; exit failed || !refused }' >"$logs/counted"
+status=$?
+cat "$logs/counted"
+exit "$status"
