@@ -12,7 +12,7 @@ expected() {
 # elsewhere until it is read.
 proofs() {
     scratch=$(mktemp -d) || exit 2
-    { rt prove 2>&1; echo $? >"$scratch/status"; } | tee "$scratch/said"
+    { . tests/memory.sh; rt prove 2>&1; echo $? >"$scratch/status"; } | tee "$scratch/said"
     status=$(cat "$scratch/status")
     proved=$(sed -n '$s/^rt: ok, \([0-9]*\) crates proved.*/\1/p' "$scratch/said")
     unproved=$(grep -c 'NOT PROVED' "$scratch/said")

@@ -6,10 +6,12 @@
 #   tests/wrong.sh beside FILE   all of them, beside an `rt prove` from nothing that has just begun: until there is FILE, which says that it has
 #                                ended, one crate at a time, each as soon as it is proved; then the others as above
 # `rt must-fail` checks a whole crate anew for each wrong text. Here the right text is checked first, over a folder in which the prover keeps
-# what it has checked, and each wrong one over a copy of that folder: only what the edit touches is checked again. The last line counts, and
-# stands in target/must-fail/counted too. What the prover said of each stands in target/must-fail/NAME/EDIT/.log.
+# what it has checked, and each wrong one over a folder with the same files: only what the edit touches is checked again. The prover writes no
+# file of such a folder in place but the one that says when it was last used; that it keeps to that is seen to at the end of each crate. The
+# last line counts, and stands in target/must-fail/counted too. What the prover said of each stands in target/must-fail/NAME/EDIT/.log.
 set -u
 cd "$(dirname "$0")/.." || exit 2
+. tests/memory.sh
 top=$(pwd -P)
 logs=${L1_LOGS:-$top/target/must-fail}
 jobs=${RT_JOBS:-$(nproc 2>/dev/null || echo 1)}
@@ -51,6 +53,9 @@ first_of() {
     sed -n "s|^$room/crates/$name/\([^ ]*\): error.*|\1|p; s|^note: $room/crates/$name/\([^ ]*\):.*|\1|p" "$1" | head -n 1
 }
 
+# of_kept: the sum of what is kept of the right text.
+of_kept() { (cd "$room/kept" && find . -type f ! -name rattle-last-used -exec sha256sum {} + | sort | sha256sum); }
+
 # of_crate NAME: in a repository of its own, where NAME is a copy and all else is as it is.
 of_crate() {
     name=$1 room=$top/target/wrong/$1 refused=0 failed=0
@@ -64,12 +69,13 @@ of_crate() {
         return 1
     }
     mv "$room/target/inc/$name" "$room/kept"
+    kept=$(of_kept)
     for edit in "crates/$name"/must-fail/*.edit; do
         label=$(basename "$edit" .edit) began=$(date +%s)
         log=$logs/$name/$label/.log
         mkdir -p "$logs/$name/$label"
         rm -rf "$room/crates/$name" "$room/target/inc/$name"
-        cp -R "crates/$name" "$room/crates" && cp -R "$room/kept" "$room/target/inc/$name" || return 2
+        cp -R "crates/$name" "$room/crates" && cp -R -l "$room/kept" "$room/target/inc/$name" || return 2
         if ! edited "$room/crates/$name" "$edit"; then
             said='NOT AN EDIT of this text'
         else
@@ -87,6 +93,10 @@ of_crate() {
         case $said in refused*) ;; *) failed=$((failed + 1)) ;; esac
         echo "wrong: $name/$label: $said ($(($(date +%s) - began)) s)"
     done
+    [ "$kept" = "$(of_kept)" ] || {
+        echo "wrong: $name: what was kept of the right text has changed"
+        failed=$((failed + 1))
+    }
     rm -rf "$room"
     echo "$refused $failed" >"$logs/$name/counts"
     [ "$failed" -eq 0 ]
