@@ -11,6 +11,8 @@ use Rattle.bytes.proofs.fields.width_of.Kinds as width-of-kinds
 use Rattle.bytes.proofs.fields.width_of.Reads as width-of
 use Rattle.bytes.proofs.puts.copy.Kinds as copy-kinds
 use Rattle.bytes.proofs.puts.copy.Reads as copy
+use Rattle.bytes.proofs.puts.lesser.Kinds as lesser-kinds
+use Rattle.bytes.proofs.puts.lesser.Reads as lesser
 use Rattle.bytes.proofs.puts.put_byte.Kinds as put-byte-kinds
 use Rattle.bytes.proofs.puts.put_byte.Reads as put-byte
 use Rattle.bytes.proofs.puts.put_run.Kinds as put-run-kinds
@@ -23,6 +25,9 @@ use Rattle.bytes.proofs.reads.number_in.Kinds as number-in-kinds
 use Rattle.bytes.proofs.reads.number_in.Reads as number-in
 use Rattle.bytes.proofs.reads.with_digit.Kinds as with-digit-kinds
 use Rattle.bytes.proofs.reads.with_digit.Reads as with-digit
+
+pub one-lesser : OneResult 0 lesser-kinds.ps lesser-kinds.r lesser.Post
+one-lesser κs a x y s t p q = p ∙ sym q
 
 pub one-byte-put : Agrees 1 put-byte-kinds.ps put-byte-kinds.r put-byte.Post (λ κs x y s t. now (s .0) ≡ now (t .0))
 one-byte-put κs a x y s t p q = p ∙ sym q

@@ -8,6 +8,7 @@ pub use fields::put_field;
 pub use fields::put_word;
 pub use fields::width_of;
 pub use puts::copy;
+pub use puts::lesser;
 pub use puts::put_byte;
 pub use puts::put_run;
 pub use reads::Longer;

@@ -1,7 +1,7 @@
 // Bytes written at a place of a run. All else is left as it is.
 ghost use mathlib.Core.Path.{_≡_};
 ghost use mathlib.Core.List.{[], _∷_};
-ghost use Prim.Native.Nat.{_+_, _≤_};
+ghost use Prim.Native.Nat.{_+_, _≤_, min};
 ghost use lib.Dec.{leb};
 ghost use lib.ListN.{length, take, drop};
 ghost use Rattle.bytes.specs.Put.{splice, putAt};
@@ -14,6 +14,13 @@ pub(crate) fn has_room(size: usize, a: usize, n: usize) -> bool
         return false;
     }
     a <= size - n
+}
+
+// The lesser of two numbers.
+pub fn lesser(a: usize, b: usize) -> usize
+    ensures { λ r. ⌜ r ≡ min a b ⌝ }
+{
+    if a < b { a } else { b }
 }
 
 // One byte at place a.

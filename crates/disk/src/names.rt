@@ -1,17 +1,12 @@
 // Names of files as bytes in a room.
 ghost use mathlib.Core.Path.{_≡_};
-ghost use Prim.Native.Nat.{_≤_, min};
+ghost use Prim.Native.Nat.{_≤_};
 ghost use lib.ListN.{length, replicate};
 ghost use Rattle.io.specs.Counts.{Counts};
 ghost use Rattle.libc.specs.Io.{Ended};
 ghost use Rattle.disk.specs.Names.{withPart, behindPart, besideRoom, besideSize, endedPath};
-
-// The smaller of two numbers.
-fn least(a: usize, b: usize) -> usize
-    ensures { λ r. ⌜ r ≡ min a b ⌝ }
-{
-    if a < b { a } else { b }
-}
+use bytes::copy;
+use bytes::lesser;
 
 // As much of a part as there is room for is put at a place, and the place behind it is answered.
 fn put(out: &mut [u8], at: usize, part: &[u8]) -> usize
@@ -20,8 +15,8 @@ fn put(out: &mut [u8], at: usize, part: &[u8]) -> usize
     ensures { λ r. ⌜ r ≤ length (now (out .exit)) ⌝ }
 {
     let left = out.len() - at;
-    bytes::copy(out, at, part, 0, left);
-    at + least(left, part.len())
+    copy(out, at, part, 0, left);
+    at + lesser(left, part.len())
 }
 
 // The name of a new file beside the one at path, as create_temp takes it.

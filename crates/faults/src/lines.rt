@@ -1,10 +1,10 @@
 // A line that is written text by text.
 ghost use mathlib.Core.Path.{_≡_};
 ghost use mathlib.Core.List.{[]};
-ghost use Prim.Native.Nat.{min};
 ghost use Rattle.faults.specs.Lines.{Says, Adds};
 ghost use Rattle.faults.specs.Sentences.{numeral};
 use bytes::copy;
+use bytes::lesser;
 use bytes::put_field;
 use bytes::width_of;
 
@@ -22,13 +22,6 @@ pub fn empty() -> Line
         bytes: [0; 256],
         size: 0,
     }
-}
-
-// The lesser of two numbers.
-fn lesser(a: usize, b: usize) -> usize
-    ensures { λ r. ⌜ r ≡ min a b ⌝ }
-{
-    if a < b { a } else { b }
 }
 
 // With a text behind it, as far as there is room.

@@ -23,7 +23,7 @@ use Rattle.rules.specs.declared.Deck.the-variants.{Good, Faulty}
 use Rattle.rules.proofs.Tests.{both-first, both-second}
 use Rattle.rules.proofs.Fields.{length-first, behind}
 use Rattle.rules.proofs.CardTrips.{DataRead, data-is, data-written-read, data-written-words, first-is, first-written-read}
-use Rattle.rules.proofs.Decks.{cards-next, cards-end, data-at, data-next}
+use Rattle.rules.proofs.Decks.{cards-next, cards-end, data-at, data-next, from-data, from-first}
 use Rattle.rules.proofs.Sound.{all-words}
 use Rattle.rules.proofs.Punching.{words-long, card-bytes}
 use Rattle.rules.proofs.Blocks.{Run, run-inside, Cut, no-steps, passes, takes, all-ahead}
@@ -101,14 +101,14 @@ module _ (v : List Cell) (order problem : ℕ) (long : length v ≡ 1000) (are-w
         let next = cards-next deck at 7 (ap cardSize is) (omega arith) in
         record {
           good = λ f.
-              rw (next, is, checkedFrom)
-              (rw (cards-end deck (at + 7) (omega arith)) (ap (λ (n : ℕ). Good n order problem) end));
+              from-first deck at (Faulty f) refl is
+              ∙ rw (cards-end deck (at + 7) (omega arith)) (ap (λ (n : ℕ). Good n order problem) end);
           bears =
               subst (λ (ks : List DataCard). AllBear v (length deck) ks []) (sym (ap dataIn next ∙ rw (is, dataIn))) no-card;
         }
 
     all-read : {k a : ℕ} {bs : List Block} → Cut v k a bs → (at number : ℕ) → number ≤ a → 1 ≤ a → Stand at number bs → Read at bs
-    unfolding cardsFor checkedFrom
+    unfolding cardsFor
     all-read no-steps at number low some e = last-read at number e
     all-read (passes o c) at number low some e = all-read c at number (omega arith) (omega arith) e
     all-read (takes {a = a} {n = n} {bs = bs} s h c) at number low some e =
@@ -119,7 +119,7 @@ module _ (v : List Cell) (order problem : ℕ) (long : length v ≡ 1000) (are-w
         let r : Read (at + (11 + 11 * n)) bs =
         all-read c _ (number + 1) (omega arith) (omega arith) (card-behind s h number at low some rest stands) in
         record {
-          good = λ f. rw (cards-next deck at (11 + 11 * n) (ap cardSize is) (omega arith), is, checkedFrom) (r .good f);
+          good = λ f. from-data deck at (Faulty f) refl is ∙ r .good f;
           bears =
               subst (λ (ks : List DataCard). AllBear v (length deck) ks (record { location = a; cells = n } ∷ bs)) (sym (data-next deck at is))
               (one-card

@@ -2,11 +2,11 @@
 // such a line.
 ghost use mathlib.Core.Path.{_≡_};
 ghost use mathlib.Core.Bool.{true};
-ghost use Prim.Native.Nat.{min};
 ghost use Rattle.io.specs.Counts.{Counts};
 ghost use Rattle.rules.specs.Cards.{refusalLine};
 ghost use Rattle.rules.specs.Sheet.{closing, makeLine};
 ghost use Rattle.says.specs.Told.{mayClose, Closed};
+use bytes::lesser;
 use rules::Ending;
 use rules::Making;
 use rules::State;
@@ -41,13 +41,6 @@ pub fn write_closing(out: &mut [u8], ending: Ending, state: State, count: u64) -
             }
         }
     }
-}
-
-// The lesser of two numbers.
-fn lesser(a: usize, b: usize) -> usize
-    ensures { λ r. ⌜ r ≡ min a b ⌝ }
-{
-    if a < b { a } else { b }
 }
 
 // What is told of a call of make that left this output: the deck, which stands there, or the line of a refused call, over the start of the

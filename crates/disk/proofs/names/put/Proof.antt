@@ -16,12 +16,12 @@ take-short (suc n) (x ∷ l) = omega (arith, take-short n l)
 
 returns : tie.Need-returns
 returns c =
-    let least : tie.After-least = search in
+    let less : tie.After-lesser = search in
     let copy : tie.After-copy = search in
     let start : tie.Start = search in
     let a = start .args in
     let left : ℕ = length (a .out .now) - a .at in
-    let e : least .least .result ≡ length (take left (a .part .now)) = least .least .ensures ∙ sym (length-take left (a .part .now)) in
+    let e : less .lesser .result ≡ length (take left (a .part .now)) = less .lesser .ensures ∙ sym (length-take left (a .part .now)) in
     let f : a .at + length (take left (a .part .now)) ≤ length (a .out .now) = omega (arith, start .pre, take-short left (a .part .now)) in
     ((ap (λ (k : ℕ). a .at + k) e, copy .copy .ensures ∙ put-fits (a .at) (take left (a .part .now)) (a .out .now) refl f), omega (arith, e, f, copy .copy .kept .0))
 

@@ -11,9 +11,9 @@ returns c = λ s h. absurd (let z : ⊥ = omega (arith, within h, c .if1 .taken)
 returns-2 : tie.Need-returns-2
 returns-2 c =
     let copied : tie.After-copy = search in
-    let least : tie.After-lesser = search in
+    let less : tie.After-lesser = search in
     let start : tie.Start = search in
-    λ s h. says-more h (start .args .text .now) (copied .copy .ensures) (least .lesser .ensures)
+    λ s h. says-more h (start .args .text .now) (copied .copy .ensures) (less .lesser .ensures)
 
 pub with-spec : {M : Type 1} → statement M
 with-spec =
