@@ -41,7 +41,7 @@ unbuilt [] n l = refl
 unbuilt (r ∷ rs) zero l = let z : ⊥ = omega arith in absurd z
 unbuilt (r ∷ rs) (suc n) l = unbuilt rs n (le-of-suc-le-suc l)
 
-pub no-row : (n : ℕ) → 36 ≤ n → No ≡ rowBuilt n codes
+pub no-row : (n : ℕ) → 40 ≤ n → No ≡ rowBuilt n codes
 unfolding codes
 no-row n l = unbuilt codes n l
 
@@ -70,26 +70,26 @@ row-next k (suc i) (r ∷ rs) l n = row-next k i rs (le-of-suc-le-suc l) n
 
 -- the rows before i have another code
 pub record Searched (k i : ℕ) : Type 0 where
-  pub upto : i ≤ 36
+  pub upto : i ≤ 40
   pub same : i + rowIn k (drop i codes) ≡ rowIn k codes
 
 pub search-begin : (k : ℕ) → Searched k 0
 search-begin k = record { upto = omega arith; same = zero-add (rowIn k codes) }
 
 module _ (k i : ℕ) (h : Searched k i) where
-  pub search-found : i < 36 → codeAt i codes ≡ k → i ≡ rowIn k codes
+  pub search-found : i < 40 → codeAt i codes ≡ k → i ≡ rowIn k codes
   unfolding codes
   search-found l e = omega (arith, row-here k i codes l e, h .same)
 
-  pub search-more : i < 36 → (codeAt i codes ≡ k → ⊥) → Searched k (i + 1)
+  pub search-more : i < 40 → (codeAt i codes ≡ k → ⊥) → Searched k (i + 1)
   unfolding codes
   search-more l n = record {
     upto = omega arith;
     same = omega (arith, row-next k i codes l n, h .same, ap (λ (j : ℕ). rowIn k (drop j codes)) (add-one i));
   }
 
-  pub search-end : 36 ≤ i → i ≡ rowIn k codes
+  pub search-end : 40 ≤ i → i ≡ rowIn k codes
   unfolding codes rowIn
   search-end l =
-      let z : i ≡ 36 = omega (arith, h .upto) in
+      let z : i ≡ 40 = omega (arith, h .upto) in
       omega (arith, h .same, ap (λ (j : ℕ). rowIn k (drop j codes)) z)

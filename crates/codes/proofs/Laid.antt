@@ -18,7 +18,7 @@ use Rattle.codes.proofs.Found.{found}
 use Rattle.codes.proofs.Keyed.{slot-small, slot-code}
 
 unfoldable pub laidOut : ℕ → List ℕ
-laidOut zero = replicate 1010 36
+laidOut zero = replicate 1010 40
 laidOut (suc n) = set (laidOut n) (slotOf (codeAt n codes)) n
 
 pub laid-more : (n : ℕ) (index : List ℕ) (slot code : ℕ) → index ≡ laidOut n → slot ≡ slotOf code → code ≡ codeAt n codes
@@ -31,11 +31,11 @@ unfolding laidOut
 long-enough zero = refl
 long-enough (suc n) = length-set (laidOut n) (slotOf (codeAt n codes)) n ∙ long-enough n
 
-pub laid-plain : laidOut 36 ≡ indexFor false
+pub laid-plain : laidOut 40 ≡ indexFor false
 unfolding laidOut codes rowIn slotOf listed
 laid-plain = refl
 
-pub laid-traced : set (laidOut 36) 410 (getD (laidOut 36) 454 0) ≡ indexFor true
+pub laid-traced : set (laidOut 40) 410 (getD (laidOut 40) 454 0) ≡ indexFor true
 unfolding laidOut codes rowIn slotOf listed
 laid-traced = refl
 

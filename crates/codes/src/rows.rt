@@ -13,8 +13,10 @@ use rules::Changing::SetTo;
 use rules::Changing::SubFrom;
 use rules::Class;
 use rules::Class::BlockIn;
+use rules::Class::BlockMoved;
 use rules::Class::BlockOut;
 use rules::Class::Changed;
+use rules::Class::Compared;
 use rules::Class::Free;
 use rules::Class::Linked;
 use rules::Class::OneNumber;
@@ -29,9 +31,11 @@ use rules::Going::TrSubr;
 use rules::Going::UncStop;
 use rules::Operation;
 use rules::Operation::Change;
+use rules::Operation::Compare;
 use rules::Operation::Go;
 use rules::Operation::Loop;
 use rules::Operation::Move;
+use rules::Operation::MoveBlock;
 use rules::Operation::Pch;
 use rules::Operation::Read;
 use rules::Operation::Reckon;
@@ -60,7 +64,15 @@ const DIV: Row = Row(4_000, Reckon(Div), TwoNumbers, *b"DIV       ");
 
 const NGMPY: Row = Row(5_000, Reckon(Ngmpy), TwoNumbers, *b"NGMPY     ");
 
-const MOVE: Row = Row(9_000, Move, OneWord, *b"MOVE      ");
+const TR_A: Row = Row(6_000, Compare(OfA), Compared, *b"TR A      ");
+
+const TR_B: Row = Row(7_000, Compare(OfB), Compared, *b"TR B      ");
+
+const TR_C: Row = Row(8_000, Compare(OfC), Compared, *b"TR C      ");
+
+const MOVE_000: Row = Row(9_000, Move, OneWord, *b"MOVE      ");
+
+const MOVE: Row = Row(9_001, MoveBlock, BlockMoved, *b"MOVE      ");
 
 const UNC_STOP: Row = Row(0, Go(UncStop), Free, *b"UNC STOP  ");
 
@@ -125,7 +137,7 @@ const NOOP: Row = Row(454, Go(Noop), Free, *b"NOOP      ");
 // The row with this number, counted from 0: the table. The rows are named here and stand in no array, which the compiler would build anew for
 // each order.
 fn row_at(i: usize) -> Row
-    requires { ⌜ i < 36 ⌝ }
+    requires { ⌜ i < 40 ⌝ }
     ensures { λ r. ⌜ (r .0 ≡ codeAt i codes) × (As (r .1) (r .2) ≡ rowBuilt i codes) × (r .3 ≡ nameAt i codes) ⌝ }
 {
     match i {
@@ -134,36 +146,40 @@ fn row_at(i: usize) -> Row
         2 => MPY,
         3 => DIV,
         4 => NGMPY,
-        5 => MOVE,
-        6 => UNC_STOP,
-        7 => COND_STOP,
-        8 => TR_SGN,
-        9 => TR_EXP,
-        10 => TR,
-        11 => TR_SUBR,
-        12 => LOOP_A,
-        13 => LOOP_B,
-        14 => LOOP_C,
-        15 => LOOP_AB,
-        16 => LOOP_AC,
-        17 => LOOP_BC,
-        18 => LOOP_ABC,
-        19 => SET_A,
-        20 => SET_B,
-        21 => SET_C,
-        22 => ADD_A,
-        23 => ADD_B,
-        24 => ADD_C,
-        25 => SUB_A,
-        26 => SUB_B,
-        27 => SUB_C,
-        28 => SQRT,
-        29 => ABS,
-        30 => READ,
-        31 => PCH,
-        32 => START_TR,
-        33 => STOP_TR,
-        34 => ST_TR_ERAS,
+        5 => TR_A,
+        6 => TR_B,
+        7 => TR_C,
+        8 => MOVE_000,
+        9 => MOVE,
+        10 => UNC_STOP,
+        11 => COND_STOP,
+        12 => TR_SGN,
+        13 => TR_EXP,
+        14 => TR,
+        15 => TR_SUBR,
+        16 => LOOP_A,
+        17 => LOOP_B,
+        18 => LOOP_C,
+        19 => LOOP_AB,
+        20 => LOOP_AC,
+        21 => LOOP_BC,
+        22 => LOOP_ABC,
+        23 => SET_A,
+        24 => SET_B,
+        25 => SET_C,
+        26 => ADD_A,
+        27 => ADD_B,
+        28 => ADD_C,
+        29 => SUB_A,
+        30 => SUB_B,
+        31 => SUB_C,
+        32 => SQRT,
+        33 => ABS,
+        34 => READ,
+        35 => PCH,
+        36 => START_TR,
+        37 => STOP_TR,
+        38 => ST_TR_ERAS,
         _ => NOOP,
     }
 }
@@ -172,7 +188,7 @@ fn row_at(i: usize) -> Row
 pub(crate) fn built_of(i: u16) -> Built
     ensures { λ r. ⌜ r ≡ rowBuilt i codes ⌝ }
 {
-    if 35 < i {
+    if 39 < i {
         return Built::No;
     }
     let row = row_at(i as usize);
@@ -183,7 +199,7 @@ pub(crate) fn built_of(i: u16) -> Built
 
 // The code of the row with this number.
 pub(crate) fn code_at(i: usize) -> u64
-    requires { ⌜ i < 36 ⌝ }
+    requires { ⌜ i < 40 ⌝ }
     ensures { λ r. ⌜ r ≡ codeAt i codes ⌝ }
 {
     let row = row_at(i);
@@ -192,10 +208,10 @@ pub(crate) fn code_at(i: usize) -> u64
 
 // The first row with a code, and the one behind the last where the code is not built.
 fn row_of(code: u64) -> usize
-    ensures { λ r. ⌜ (r ≡ rowIn code codes) × (r ≤ 36) ⌝ }
+    ensures { λ r. ⌜ (r ≡ rowIn code codes) × (r ≤ 40) ⌝ }
 {
     let mut i: usize = 0;
-    while i < 36 {
+    while i < 40 {
         if code_at(i) == code {
             return i;
         }
@@ -209,7 +225,7 @@ pub fn look_up(code: u64) -> Built
     ensures { λ r. ⌜ r ≡ lookup code codes ⌝ }
 {
     let i = row_of(code);
-    if i < 36 {
+    if i < 40 {
         let row = row_at(i);
         let operation = row.1;
         let class = row.2;
@@ -223,7 +239,7 @@ pub fn name_of(code: u64) -> [u8; 10]
     ensures { λ r. ⌜ r ≡ nameIn code codes ⌝ }
 {
     let i = row_of(code);
-    if i < 36 {
+    if i < 40 {
         let row = row_at(i);
         return row.3;
     }

@@ -6,13 +6,13 @@ use crate::rows::built_of;
 use crate::rows::code_at;
 use rules::Built;
 
-// At each slot the number of its code's row, once for a run: 36, behind the last, for a code that is not built. In traced mode PCH is NOOP.
+// At each slot the number of its code's row, once for a run: 40, behind the last, for a code that is not built. In traced mode PCH is NOOP.
 pub fn index(traced: bool) -> [u16; 1010]
     ensures { λ r. ⌜ Indexed traced r ⌝ }
 {
-    let mut index = [36u16; 1010];
+    let mut index = [40u16; 1010];
     let mut i: usize = 0;
-    while i < 36 {
+    while i < 40 {
         let slot = slot_of(code_at(i));
         index[slot] = i as u16;
         i += 1;

@@ -15,6 +15,7 @@ listings =
       punched = refl;
       traced = refl;
       ended = refl;
+      named = refl;
       cut = refl;
       past = refl;
       letter = refl;

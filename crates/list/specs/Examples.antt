@@ -38,12 +38,21 @@ pub record ListingsHold : Type 0 where
       "  B's word   +2000000050" ∷
       "  cell 000   -0000000000" ∷ [])
   -- a code that is not built, two orders about tracing, and a byte that begins no card
-  pub ended : Lists "30009300-6200201202+0452000000+0111020300000?T101007" (
+  pub ended : Lists "30009300-0401201202+0452000000+0111020300000?T101007" (
       "card  0009  at 300  problem 000" ∷
-      "  300  -6200201202  -           200 201 202" ∷
+      "  300  -0401201202  -               201 202" ∷
       "  301  +0452000000  ST TR ERAS      000 000" ∷
       "  302  +0111020300  LOOP ABC        020 300" ∷
       "card 2, its kind: 1 to 5 or T is due at byte 44, and the byte there is a mark ?" ∷ [])
+  -- address tests, a block move and MOVE 000
+  pub named : Lists "50009107+6103821103+7099451099-8114412103+9005701703+9000701703043T107043" (
+      "card  0009  at 107  problem 043" ∷
+      "  107  +6103821103  TR A        103 821 103" ∷
+      "  108  +7099451099  TR B        099 451 099" ∷
+      "  109  -8114412103  TR C        114 412 103" ∷
+      "  110  +9005701703  MOVE        005 701 703" ∷
+      "  111  +9000701703  MOVE        000 701 703" ∷
+      "first order 107     problem 043" ∷ [])
   -- a stop card cut short, a card whose last cell is past 999, and letters where digits are due in a trace card and a stop card
   pub cut : Lists "Z000103000003+300000005" ("card 1, its word: a digit is due at byte 23, and the file ends there; the card begins at byte 0" ∷ [])
   pub past : Lists "20001999+0000000000+0000000000000" ("card 1, its location: 001 to 998 is due at byte 5, and the digits there are 999" ∷ [])

@@ -1,5 +1,6 @@
 mod Shown
 mod Stores
+mod Moves
 mod Changes
 mod Loops
 mod Tracings

@@ -23,7 +23,7 @@ use Rattle.rules.specs.declared.Going.the-variants.{UncStop, CondStop, TrSgn, T
 use Rattle.rules.specs.declared.Tracing.{Tracing}
 use Rattle.rules.specs.declared.Tracing.the-variants.{StartTr, StopTr, StTrEras}
 use Rattle.rules.specs.declared.Operation.{Operation}
-use Rattle.rules.specs.declared.Operation.the-variants.{Reckon, Move, Go, Loop, Change, Read, Pch, Trace}
+use Rattle.rules.specs.declared.Operation.the-variants.{Reckon, Move, Go, Loop, Change, Read, Pch, Trace, MoveBlock, Compare}
 use Rattle.rules.specs.declared.Checked.{Checked}
 use Rattle.rules.specs.declared.Checked.the-variants.{Passes, Refuses}
 use Rattle.rules.specs.declared.Built.{Built}
@@ -97,6 +97,8 @@ performed-same i m Pch a b c =
     let n : ℕ = c + 1 - b in
     either-same m (leb (length (m .sent) + punchSize n) (i .room)) (done (onward (cardsPunched n m b n))) (undone NoRoom m) (cards-same n m b n) refl
 performed-same i m (Trace t) a b c = retraced-same m t
+performed-same i m MoveBlock a b c = refl
+performed-same i m (Compare x) a b c = refl
 
 -- ---- a whole order
 

@@ -1,5 +1,5 @@
 -- One order from its code on, said of the machine that the lent runs show. Assumes nothing.
-use Prim.Native.Nat.{ℕ, _+_, _≤_}
+use Prim.Native.Nat.{ℕ, _+_, _-_, _≤_}
 use mathlib.Core.Path.{_≡_, refl, sym, ap, subst, _∙_}
 use mathlib.Core.Logic.{_⊎_, inl, inr}
 use mathlib.Core.List.{List}
@@ -11,7 +11,7 @@ use borrow.Author.Tests.{leb-true}
 use Rattle.rules.specs.Words.{pick, both, isNumber, aIn, bIn, cIn}
 use Rattle.rules.specs.Drum.{view, wordAt}
 use Rattle.rules.specs.Arithmetic.{addOf, subOf, mpyOf, divOf, ngmpyOf, sqrtOf, absOf}
-use Rattle.rules.specs.Codes.{codes, lookup, andThen, unless, blockFits, addressCheck, markCheck, numberCheck, checked}
+use Rattle.rules.specs.Codes.{codes, lookup, andThen, unless, blockFits, blockLies, addressCheck, markCheck, numberCheck, checked}
 use Rattle.rules.specs.Machine.{Machine, Inputs, Answer, isTraced}
 use Rattle.rules.specs.Orders.{stopsByLoss, reckoned, performed}
 use Rattle.rules.specs.Running.{allowed, obeyedAs, codeDone, obeyed}
@@ -21,9 +21,9 @@ use Rattle.rules.specs.declared.Reckoned.the-variants.{Refused}
 use Rattle.rules.specs.declared.Reckoning.{Reckoning}
 use Rattle.rules.specs.declared.Reckoning.the-variants.{Add, Sub, Mpy, Div, Ngmpy, Sqrt, Abs}
 use Rattle.rules.specs.declared.Operation.{Operation}
-use Rattle.rules.specs.declared.Operation.the-variants.{Reckon, Move, Go, Loop, Change, Read, Pch, Trace}
+use Rattle.rules.specs.declared.Operation.the-variants.{Reckon, Move, Go, Loop, Change, Read, Pch, Trace, MoveBlock, Compare}
 use Rattle.rules.specs.declared.Class.{Class}
-use Rattle.rules.specs.declared.Class.the-variants.{Free, TwoNumbers, OneNumber, OneWord, Changed, Linked, BlockOut, BlockIn}
+use Rattle.rules.specs.declared.Class.the-variants.{Free, TwoNumbers, OneNumber, OneWord, Changed, Linked, BlockOut, BlockIn, BlockMoved, Compared}
 use Rattle.rules.specs.declared.Checked.{Checked}
 use Rattle.rules.specs.declared.Checked.the-variants.{Passes, Refuses}
 use Rattle.rules.specs.declared.Built.{Built}
@@ -53,13 +53,25 @@ in-block b c e = (leb-true 1 b (both-first (leb 1 b) (leb b c) e), leb-true b c 
 
 -- 20 and 21 of a class
 abbrev pub placed : Class → List Cell → ℕ → ℕ → ℕ → Checked
-placed k v a b c = andThen (addressCheck k b c) (markCheck k v a b c)
+placed k v a b c = andThen (addressCheck k a b c) (markCheck k v a b c)
 
 block-fits : (k : Class) (v : List Cell) (a b c : ℕ) → (k ≡ BlockIn) ⊎ (k ≡ BlockOut) → placed k v a b c ≡ Passes → (1 ≤ b) × (b ≤ c)
 block-fits k v a b c (inl f) e = in-block b c (unless-passes (blockFits b c) BadAddress _ (rw f at e))
 block-fits k v a b c (inr f) e = in-block b c (unless-passes (blockFits b c) BadAddress _ (rw f at e))
 
-allowed-by : (o : Operation) (k : Class) (v : List Cell) (a b c : ℕ) → Suits o k → placed k v a b c ≡ Passes → Allowed o b c
+-- a block that begins behind 000 and ends at 999 at the latest
+ends : (b n : ℕ) → blockLies b n ≡ true → b + n ≤ 1000
+ends b n e =
+    let f : 1 ≤ b = leb-true 1 b (both-first (leb 1 b) (leb (b + n - 1) 999) e) in
+    let g : b + n - 1 ≤ 999 = leb-true (b + n - 1) 999 (both-second (leb 1 b) (leb (b + n - 1) 999) e) in
+    omega arith
+
+blocks-lie : (k : Class) (v : List Cell) (a b c : ℕ) → k ≡ BlockMoved → placed k v a b c ≡ Passes → (b + a ≤ 1000) × (c + a ≤ 1000)
+blocks-lie k v a b c f e =
+    let t = unless-passes (both (blockLies b a) (blockLies c a)) BadAddress _ (rw f at e) in
+    (ends b a (both-first (blockLies b a) (blockLies c a) t), ends c a (both-second (blockLies b a) (blockLies c a) t))
+
+allowed-by : (o : Operation) (k : Class) (v : List Cell) (a b c : ℕ) → Suits o k → placed k v a b c ≡ Passes → Allowed o a b c
 allowed-by (Reckon r) k v a b c s e = tt
 allowed-by Move k v a b c s e = tt
 allowed-by (Go g) k v a b c s e = tt
@@ -68,8 +80,10 @@ allowed-by (Change m x) k v a b c s e = tt
 allowed-by Read k v a b c s e = block-fits k v a b c (inl s) e
 allowed-by Pch k v a b c s e = block-fits k v a b c (inr s) e
 allowed-by (Trace t) k v a b c s e = tt
+allowed-by MoveBlock k v a b c s e = blocks-lie k v a b c s e
+allowed-by (Compare x) k v a b c s e = tt
 
-pub passed : (n : ℕ) (o : Operation) (k : Class) (v : List Cell) (a b c : ℕ) → As o k ≡ lookup n codes → placed k v a b c ≡ Passes → Allowed o b c
+pub passed : (n : ℕ) (o : Operation) (k : Class) (v : List Cell) (a b c : ℕ) → As o k ≡ lookup n codes → placed k v a b c ≡ Passes → Allowed o a b c
 passed n o k v a b c q e = allowed-by o k v a b c (subst SuitsBuilt (sym q) (suits n)) e
 
 -- ---- check 24: arithmetic refuses what is no number by itself, and nothing else asks for numbers
@@ -83,6 +97,8 @@ no-numbers Changed v a b e = refl
 no-numbers Linked v a b e = refl
 no-numbers BlockOut v a b e = refl
 no-numbers BlockIn v a b e = refl
+no-numbers BlockMoved v a b e = refl
+no-numbers Compared v a b e = refl
 
 module _ (i : Inputs) (m : Machine) (a b c : ℕ) where
   -- of two numbers, and of one
@@ -121,6 +137,8 @@ module _ (i : Inputs) (m : Machine) (a b c : ℕ) where
   judges Read k s = ap (λ (l : Class). allowed i m Read a b c (numberCheck l (m .cells) a b)) s
   judges Pch k s = ap (λ (l : Class). allowed i m Pch a b c (numberCheck l (m .cells) a b)) s
   judges (Trace t) k s = quiet (Trace t) k s
+  judges MoveBlock k s = ap (λ (l : Class). allowed i m MoveBlock a b c (numberCheck l (m .cells) a b)) s
+  judges (Compare x) k s = quiet (Compare x) k s
 
 then-then : (x y z : Checked) → andThen x (andThen y z) ≡ andThen (andThen x y) z
 then-then Passes y z = refl
@@ -128,7 +146,7 @@ then-then (Refuses r) y z = refl
 
 checked-is : (k : Class) (v : List Cell) (a b c : ℕ) → checked k v a b c ≡ andThen (placed k v a b c) (numberCheck k v a b)
 unfolding checked
-checked-is k v a b c = then-then (addressCheck k b c) (markCheck k v a b c) (numberCheck k v a b)
+checked-is k v a b c = then-then (addressCheck k a b c) (markCheck k v a b c) (numberCheck k v a b)
 
 -- ---- the order itself
 

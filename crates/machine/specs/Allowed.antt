@@ -1,27 +1,29 @@
 -- What an operation may take for granted of its addresses, once the checks of its class have passed: PCH and READ, that B is not 000 nor
--- above C. And what telling an order on its trace card comes to. Assumes nothing.
-use Prim.Native.Nat.{ℕ, _≤_}
+-- above C; a block move, that no cell of its blocks is past 999. And what telling an order on its trace card comes to. Assumes nothing.
+use Prim.Native.Nat.{ℕ, _+_, _≤_}
 use mathlib.Core.Path.{_≡_}
 use mathlib.Core.List.{List}
 use lib.ListN.{length, getD}
 use Rattle.rules.specs.Machine.{Machine, Inputs}
 use Rattle.rules.specs.Running.{obeyed, traced}
 use Rattle.rules.specs.declared.Operation.{Operation}
-use Rattle.rules.specs.declared.Operation.the-variants.{Reckon, Move, Go, Loop, Change, Read, Pch, Trace}
+use Rattle.rules.specs.declared.Operation.the-variants.{Reckon, Move, Go, Loop, Change, Read, Pch, Trace, MoveBlock, Compare}
 use Rattle.rules.specs.declared.Checked.{Checked}
 use Rattle.rules.specs.declared.Checked.the-variants.{Passes, Refuses}
 use Rattle.rules.specs.declared.Outcome.the-variants.{Undone}
 use Rattle.machine.specs.Lent.{Fitting, Shows, Did}
 
-abbrev pub Allowed : Operation → ℕ → ℕ → Type 0
-Allowed (Reckon r) b c = Unit {0}
-Allowed Move b c = Unit {0}
-Allowed (Go g) b c = Unit {0}
-Allowed (Loop x y z) b c = Unit {0}
-Allowed (Change k x) b c = Unit {0}
-Allowed Read b c = (1 ≤ b) × (b ≤ c)
-Allowed Pch b c = (1 ≤ b) × (b ≤ c)
-Allowed (Trace t) b c = Unit {0}
+abbrev pub Allowed : Operation → ℕ → ℕ → ℕ → Type 0
+Allowed (Reckon r) a b c = Unit {0}
+Allowed Move a b c = Unit {0}
+Allowed (Go g) a b c = Unit {0}
+Allowed (Loop x y z) a b c = Unit {0}
+Allowed (Change k x) a b c = Unit {0}
+Allowed Read a b c = (1 ≤ b) × (b ≤ c)
+Allowed Pch a b c = (1 ≤ b) × (b ≤ c)
+Allowed (Trace t) a b c = Unit {0}
+Allowed MoveBlock a b c = (b + a ≤ 1000) × (c + a ≤ 1000)
+Allowed (Compare x) a b c = Unit {0}
 
 -- ten numbers and an output with which an order may be begun
 pub record Begun (out row : List ℕ) : Type 0 where

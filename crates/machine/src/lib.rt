@@ -1,9 +1,11 @@
 // Load and run on a lent drum, its marks, a deck and an output. Only these two are shown; each family of orders has a module of its own.
 mod changing;
+mod comparing;
 mod entering;
 mod going;
 mod loading;
 mod looping;
+mod moving;
 mod obeying;
 mod punching;
 mod reading;

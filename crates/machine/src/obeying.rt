@@ -39,7 +39,7 @@ fn perform(
     deck: &[u8],
 ) -> Outcome
     requires { ⌜ Ready (now drum) (now marks) × Begun (now out) (now row) ⌝ }
-    requires { ⌜ (b < 1000) × (c < 1000) × Allowed o b c ⌝ }
+    requires { ⌜ (b < 1000) × (c < 1000) × Allowed o a b c ⌝ }
     ensures { λ r. ⌜ ((i : Inputs) → Lends (now (deck .entry)) switches i →
         Does i (now (drum .entry)) (now (marks .entry)) (now (out .entry)) (now (row .entry))
         (now (drum .exit)) (now (marks .exit)) (now (out .exit)) (now (row .exit)) r (λ m. performed i m o a b c)) ⌝ }
@@ -60,6 +60,14 @@ fn perform(
         Operation::Pch => crate::punching::punch(drum, marks, out, row, b, c),
         Operation::Trace(k) => {
             crate::tracing::retrace(drum, marks, row, k);
+            Outcome::GoesOn
+        }
+        Operation::MoveBlock => {
+            crate::moving::move_block(drum, marks, row, a, b, c);
+            Outcome::GoesOn
+        }
+        Operation::Compare(x) => {
+            crate::comparing::compare(drum, marks, row, x, a, b, c);
             Outcome::GoesOn
         }
     }

@@ -31,7 +31,7 @@ use Rattle.rules.specs.declared.Built.the-variants.{As, No}
 use Rattle.rules.specs.declared.Outcome.{Outcome}
 use Rattle.rules.specs.declared.Outcome.the-variants.{GoesOn, Undone}
 use Rattle.rules.specs.declared.Operation.{Operation}
-use Rattle.rules.specs.declared.Operation.the-variants.{Reckon, Move, Go, Loop, Change, Read, Pch, Trace}
+use Rattle.rules.specs.declared.Operation.the-variants.{Reckon, Move, Go, Loop, Change, Read, Pch, Trace, MoveBlock, Compare}
 use Rattle.rules.specs.declared.Going.{Going}
 use Rattle.rules.specs.declared.Going.the-variants.{UncStop, CondStop, TrSgn, TrExp, Tr, TrSubr, Noop}
 use Rattle.rules.specs.declared.Tracing.{Tracing}
@@ -125,6 +125,8 @@ module _ (i : Inputs) where
       read-writes m (judgedFrom (i .deck) (m .state .reader) b c) (judged-other (dataFrom (i .deck) (m .state .reader)) (m .state .reader) b c)
   performed-writes m Pch a b c f l = let k = f refl in punched-writes m b (c + 1 - b) (omega arith)
   performed-writes m (Trace t) a b c f l = retraced-writes m t
+  performed-writes m MoveBlock a b c f l = quiet m false _ tt refl
+  performed-writes m (Compare x) a b c f l = quiet m false _ tt refl
 
   allowed-writes : (m : Machine) (o : Operation) (a b c : ℕ) (k : Checked) → OfChecked k → (k ≡ Passes → isPch o ≡ true → 1 ≤ b) → c ≤ 999
       → Writes i m (isPch o) (allowed i m o a b c k)

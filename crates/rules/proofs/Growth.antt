@@ -12,7 +12,7 @@ use Rattle.rules.specs.Cards.{wordIn, wordPlace}
 use Rattle.rules.specs.Decks.{DataCard, dataFrom, wordsStored, cardsStored, judgedFrom}
 use Rattle.rules.specs.Codes.{codes, lookup, checked}
 use Rattle.rules.specs.Machine.{Machine, Inputs, Answer, counting, clearBox, isTraced, isTracing, withState, goingTo, onward, done, undone}
-use Rattle.rules.specs.Orders.{reckonedBy, stopsByLoss, reckoned, condStopped, gone, largest, raised, five, cardPunched, cardsPunched, punchSize, punched, read, erased, retraced, performed}
+use Rattle.rules.specs.Orders.{reckonedBy, stopsByLoss, reckoned, condStopped, gone, largest, raised, five, cardPunched, cardsPunched, punchSize, punched, wordsFrom, read, erased, retraced, performed}
 use Rattle.rules.specs.Running.{allowed, obeyedAs, codeDone, obeyed, asDone, orderFits, traceSent, traceSize, traced, fetched, step, runFrom}
 use Rattle.rules.specs.declared.Cell.{Cell}
 use Rattle.rules.specs.declared.Cell.the-variants.{Foreign, Owned}
@@ -26,12 +26,13 @@ use Rattle.rules.specs.declared.Checked.the-variants.{Passes, Refuses}
 use Rattle.rules.specs.declared.Built.{Built}
 use Rattle.rules.specs.declared.Built.the-variants.{As, No}
 use Rattle.rules.specs.declared.Operation.{Operation}
-use Rattle.rules.specs.declared.Operation.the-variants.{Reckon, Move, Go, Loop, Change, Read, Pch, Trace}
+use Rattle.rules.specs.declared.Operation.the-variants.{Reckon, Move, Go, Loop, Change, Read, Pch, Trace, MoveBlock, Compare}
 use Rattle.rules.specs.declared.Going.{Going}
 use Rattle.rules.specs.declared.Going.the-variants.{UncStop, CondStop, TrSgn, TrExp, Tr, TrSubr, Noop}
 use Rattle.rules.specs.declared.Tracing.{Tracing}
 use Rattle.rules.specs.declared.Tracing.the-variants.{StartTr, StopTr, StTrEras}
 use Rattle.rules.proofs.Views.{Grows, store-grows}
+use Rattle.rules.proofs.BlockMoves.{stored-grows}
 
 -- the same cells, or a choice of two
 same : (v : List Cell) → Grows v v
@@ -127,6 +128,8 @@ performed-grows i m (Change k x) a b c = store-grows (m .cells) b _
 performed-grows i m Read a b c = read-grows i m (judgedFrom (i .deck) (m .state .reader) b c)
 performed-grows i m Pch a b c = punched-grows i m b (c + 1 - b)
 performed-grows i m (Trace t) a b c = retraced-grows m t
+performed-grows i m MoveBlock a b c = stored-grows c (wordsFrom (m .cells) b a) (m .cells)
+performed-grows i m (Compare x) a b c = same (m .cells)
 
 -- ---- a whole order, and a run
 

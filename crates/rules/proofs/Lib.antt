@@ -1,6 +1,7 @@
 pub mod Tests
 pub mod Views
 pub mod Undone
+pub mod BlockMoves
 pub mod Growth
 pub mod Words
 pub mod Nearest

@@ -32,7 +32,7 @@ use Rattle.rules.specs.declared.Stop.the-variants.{Unconditional, Condit
 use Rattle.rules.specs.declared.Outcome.{Outcome}
 use Rattle.rules.specs.declared.Outcome.the-variants.{GoesOn, Stops, Undone}
 use Rattle.rules.specs.declared.Operation.{Operation}
-use Rattle.rules.specs.declared.Operation.the-variants.{Reckon, Move, Go, Loop, Change, Read, Pch, Trace}
+use Rattle.rules.specs.declared.Operation.the-variants.{Reckon, Move, Go, Loop, Change, Read, Pch, Trace, MoveBlock, Compare}
 use Rattle.rules.specs.declared.Going.{Going}
 use Rattle.rules.specs.declared.Going.the-variants.{UncStop, CondStop, TrSgn, TrExp, Tr, TrSubr, Noop}
 use Rattle.rules.proofs.Tests.{false-true, both-first, both-second}
@@ -154,6 +154,8 @@ module _ (i : Inputs) (s : Switches) (q : Requests) (never : (n : ℕ) → stops
       let x : Answer = done (onward (cardsPunched n m b n)) in
       either-eased (leb (length (m .sent) + punchSize n) (i .room)) x (undone NoRoom m) x (undone NoRoom m) (same refl) (same refl)
   performed-eased m (Trace t) a b c = same refl
+  performed-eased m MoveBlock a b c = same refl
+  performed-eased m (Compare x) a b c = same refl
 
   allowed-eased : (m : Machine) (o : Operation) (a b c : ℕ) (k : Checked) → Eases m (allowed i m o a b c k) (allowed j m o a b c k)
   allowed-eased m o a b c Passes = performed-eased m o a b c

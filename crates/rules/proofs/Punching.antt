@@ -19,9 +19,9 @@ use Rattle.rules.specs.declared.Refusal.the-variants.{BadAddress, Unmark
 use Rattle.rules.specs.declared.Checked.the-variants.{Passes}
 use Rattle.rules.specs.declared.Built.the-variants.{As, No}
 use Rattle.rules.specs.declared.Class.{Class}
-use Rattle.rules.specs.declared.Class.the-variants.{Free, TwoNumbers, OneNumber, OneWord, Changed, Linked, BlockOut, BlockIn}
+use Rattle.rules.specs.declared.Class.the-variants.{Free, TwoNumbers, OneNumber, OneWord, Changed, Linked, BlockOut, BlockIn, BlockMoved, Compared}
 use Rattle.rules.specs.declared.Operation.{Operation}
-use Rattle.rules.specs.declared.Operation.the-variants.{Reckon, Move, Go, Loop, Change, Read, Pch, Trace}
+use Rattle.rules.specs.declared.Operation.the-variants.{Reckon, Move, Go, Loop, Change, Read, Pch, Trace, MoveBlock, Compare}
 use Rattle.rules.proofs.Tests.{both-first, both-second, false-true}
 use Rattle.rules.proofs.Fields.{length-data}
 
@@ -36,6 +36,8 @@ isPch (Change k x) = false
 isPch Read = false
 isPch Pch = true
 isPch (Trace t) = false
+isPch MoveBlock = false
+isPch (Compare x) = false
 
 abbrev pub isOut : Class → Bool
 isOut Free = false
@@ -46,6 +48,8 @@ isOut Changed = false
 isOut Linked = false
 isOut BlockOut = true
 isOut BlockIn = false
+isOut BlockMoved = false
+isOut Compared = false
 
 -- a row of PCH has its code and its class
 abbrev pub rowSuits : Row → Bool
@@ -109,6 +113,8 @@ passes-block BlockOut v a b c t e = by-block (blockFits b c) refl e
     by-block true f g = leb-true 1 b (both-first (leb 1 b) (leb b c) f)
     by-block false f g = let z : _≡_ {A = ℕ} 0 1 = cc in let y : ⊥ = omega arith in absurd y
 passes-block BlockIn v a b c t e = false-true t
+passes-block BlockMoved v a b c t e = false-true t
+passes-block Compared v a b c t e = false-true t
 
 -- ---- how long cards are
 

@@ -9,7 +9,7 @@ use Rattle.rules.specs.Rounding.{Settled, single, nought, value, outside
 use Rattle.rules.specs.Arithmetic.{valueIn, wordOf, ofNumbers, addOf, subOf, mpyOf, divOf, ngmpyOf, sqrtOf, absOf}
 use Rattle.rules.specs.Drum.{wordAt}
 use Rattle.rules.specs.Decks.{DataCard, judged, fitsBlock}
-use Rattle.rules.specs.Codes.{checked, andThen, unless, addressCheck, markCheck, numberCheck, blockFits, ownedAt, ownedFrom}
+use Rattle.rules.specs.Codes.{checked, andThen, unless, addressCheck, markCheck, numberCheck, blockFits, blockLies, ownedAt, ownedFrom}
 use Rattle.rules.specs.Orders.{reckonedBy}
 use Rattle.rules.specs.declared.Cell.{Cell}
 use Rattle.rules.specs.declared.Reckoned.{Reckoned}
@@ -23,7 +23,7 @@ use Rattle.rules.specs.declared.Refusal.the-variants.{BadAddress, Unmark
 use Rattle.rules.specs.declared.Checked.{Checked}
 use Rattle.rules.specs.declared.Checked.the-variants.{Passes, Refuses}
 use Rattle.rules.specs.declared.Class.{Class}
-use Rattle.rules.specs.declared.Class.the-variants.{Free, TwoNumbers, OneNumber, OneWord, Changed, Linked, BlockOut, BlockIn}
+use Rattle.rules.specs.declared.Class.the-variants.{Free, TwoNumbers, OneNumber, OneWord, Changed, Linked, BlockOut, BlockIn, BlockMoved, Compared}
 use Rattle.rules.specs.declared.Outcome.{Outcome}
 use Rattle.rules.specs.declared.Outcome.the-variants.{GoesOn, Stops, Undone}
 
@@ -96,15 +96,17 @@ then-other : (x y : Checked) → OfChecked x → OfChecked y → OfChecked (andT
 then-other Passes y p q = q
 then-other (Refuses r) y p q = p
 
-address-other : (k : Class) (b c : ℕ) → OfChecked (addressCheck k b c)
-address-other Free b c = tt
-address-other TwoNumbers b c = tt
-address-other OneNumber b c = tt
-address-other OneWord b c = tt
-address-other Changed b c = unless-other (leb 1 b) BadAddress tt
-address-other Linked b c = unless-other (leb 1 c) BadAddress tt
-address-other BlockOut b c = unless-other (blockFits b c) BadAddress tt
-address-other BlockIn b c = unless-other (blockFits b c) BadAddress tt
+address-other : (k : Class) (a b c : ℕ) → OfChecked (addressCheck k a b c)
+address-other Free a b c = tt
+address-other TwoNumbers a b c = tt
+address-other OneNumber a b c = tt
+address-other OneWord a b c = tt
+address-other Changed a b c = unless-other (leb 1 b) BadAddress tt
+address-other Linked a b c = unless-other (leb 1 c) BadAddress tt
+address-other BlockOut a b c = unless-other (blockFits b c) BadAddress tt
+address-other BlockIn a b c = unless-other (blockFits b c) BadAddress tt
+address-other BlockMoved a b c = unless-other (both (blockLies b a) (blockLies c a)) BadAddress tt
+address-other Compared a b c = unless-other (leb 1 a) BadAddress tt
 
 mark-other : (k : Class) (v : List Cell) (a b c : ℕ) → OfChecked (markCheck k v a b c)
 mark-other Free v a b c = tt
@@ -117,6 +119,8 @@ mark-other Changed v a b c = unless-other (ownedAt v b) Unmarked tt
 mark-other Linked v a b c = unless-other (ownedAt v c) Unmarked tt
 mark-other BlockOut v a b c = unless-other (ownedFrom v b (c + 1 - b)) Unmarked tt
 mark-other BlockIn v a b c = tt
+mark-other BlockMoved v a b c = unless-other (ownedFrom v b a) Unmarked tt
+mark-other Compared v a b c = unless-other (ownedAt v a) Unmarked tt
 
 number-other : (k : Class) (v : List Cell) (a b : ℕ) → OfChecked (numberCheck k v a b)
 number-other Free v a b = tt
@@ -130,11 +134,13 @@ number-other Changed v a b = tt
 number-other Linked v a b = tt
 number-other BlockOut v a b = tt
 number-other BlockIn v a b = tt
+number-other BlockMoved v a b = tt
+number-other Compared v a b = tt
 
 pub checked-other : (k : Class) (v : List Cell) (a b c : ℕ) → OfChecked (checked k v a b c)
 unfolding checked
 checked-other k v a b c =
-    then-other (addressCheck k b c) (andThen (markCheck k v a b c) (numberCheck k v a b)) (address-other k b c)
+    then-other (addressCheck k a b c) (andThen (markCheck k v a b c) (numberCheck k v a b)) (address-other k a b c)
     (then-other (markCheck k v a b c) (numberCheck k v a b) (mark-other k v a b c) (number-other k v a b))
 
 -- the cards of READ

@@ -26,7 +26,7 @@ use Rattle.rules.specs.declared.Built.{Built}
 use Rattle.rules.specs.declared.Built.the-variants.{As, No}
 use Rattle.rules.specs.declared.Outcome.the-variants.{Undone}
 use Rattle.rules.specs.declared.Operation.{Operation}
-use Rattle.rules.specs.declared.Operation.the-variants.{Reckon, Move, Go, Loop, Change, Read, Pch, Trace}
+use Rattle.rules.specs.declared.Operation.the-variants.{Reckon, Move, Go, Loop, Change, Read, Pch, Trace, MoveBlock, Compare}
 use Rattle.rules.specs.declared.Going.{Going}
 use Rattle.rules.specs.declared.Going.the-variants.{UncStop, CondStop, TrSgn, TrExp, Tr, TrSubr, Noop}
 use Rattle.rules.specs.declared.Tracing.{Tracing}
@@ -135,6 +135,8 @@ module _ (p : List ℕ) (r : ℕ) (i : Inputs) where
       (done (onward (cardsPunched n m b n))) (done (onward (cardsPunched n (sentBefore p m) b n)))
       (alike (ap (λ (u : Machine). done (onward u)) (cards-behind p n m b n)))
   performed-alike m (Trace t) a b c = retraced-alike m t
+  performed-alike m MoveBlock a b c = alike refl
+  performed-alike m (Compare x) a b c = alike refl
 
   allowed-alike : (m : Machine) (o : Operation) (a b c : ℕ) (k : Checked) → Alike p (allowed i m o a b c k) (allowed other (sentBefore p m) o a b c k)
   allowed-alike m o a b c Passes = performed-alike m o a b c

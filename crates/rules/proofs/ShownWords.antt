@@ -26,7 +26,7 @@ use Rattle.rules.specs.declared.Checked.the-variants.{Passes, Refuses}
 use Rattle.rules.specs.declared.Built.{Built}
 use Rattle.rules.specs.declared.Built.the-variants.{As, No}
 use Rattle.rules.specs.declared.Operation.{Operation}
-use Rattle.rules.specs.declared.Operation.the-variants.{Reckon, Move, Go, Loop, Change, Read, Pch, Trace}
+use Rattle.rules.specs.declared.Operation.the-variants.{Reckon, Move, Go, Loop, Change, Read, Pch, Trace, MoveBlock, Compare}
 use Rattle.rules.specs.declared.Going.{Going}
 use Rattle.rules.specs.declared.Going.the-variants.{UncStop, CondStop, TrSgn, TrExp, Tr, TrSubr, Noop}
 use Rattle.rules.proofs.Results.{Fits as IsWord, reckoned-fits}
@@ -82,6 +82,8 @@ module _ (i : Inputs) where
       let n : ℕ = c + 1 - b in
       either-shows (leb (length (m .sent) + punchSize n) (i .room)) (done (onward (cardsPunched n m b n))) (undone NoRoom m) (omega arith) (omega arith)
   performed-shows m (Trace t) a b c h = omega arith
+  performed-shows m MoveBlock a b c h = omega arith
+  performed-shows m (Compare x) a b c h = omega arith
 
   allowed-shows : (m : Machine) (o : Operation) (a b c : ℕ) (k : Checked) → Words m → ShowsWord (allowed i m o a b c k)
   allowed-shows m o a b c Passes h = performed-shows m o a b c h

@@ -12,7 +12,7 @@ use Rattle.rules.specs.Cards.{wordIn, wordPlace}
 use Rattle.rules.specs.Drum.{wordAt}
 use Rattle.rules.specs.Decks.{dataIn, dataFrom, wordsStored, cardsStored, mayStand}
 use Rattle.rules.specs.Machine.{Machine, Inputs, Answer, countA, countB, countC, counting, clearBox, numbered, readTo, tracingSet, isTraced, withState, stored, sending, goingTo, onward}
-use Rattle.rules.specs.Orders.{reckoned, isNegative, condStopped, gone, raise, raised, named, largest, newAddress, changedWord, five, cardPunched, cardsPunched, tracingTo, erased, retraced}
+use Rattle.rules.specs.Orders.{reckoned, isNegative, condStopped, gone, raise, raised, named, largest, newAddress, changedWord, comparedTo, five, cardPunched, cardsPunched, cellsMoved, tracingTo, erased, retraced}
 use Rattle.rules.specs.declared.Cell.{Cell}
 use Rattle.rules.specs.declared.State.{State}
 use Rattle.rules.specs.declared.Reckoned.{Reckoned}
@@ -29,6 +29,7 @@ use Rattle.rules.proofs.Results.{Fits as IsWord}
 use Rattle.rules.proofs.Decks.{cards-end, data-at, data-next}
 use Rattle.rules.proofs.Tails.{Tail, at-end, one-more}
 use Rattle.rules.proofs.Sound.{Cells, cells-stored, Steady}
+use Rattle.rules.proofs.BlockMoves.{moved-sound}
 
 pub record Sound (deck : List ℕ) (behind : ℕ) (m : Machine) : Type 0 where
   pub cells : Cells (m .cells)
@@ -229,6 +230,11 @@ module _ {deck : List ℕ} {behind : ℕ} where
       goes-on l
       (stores b (changedWord k x w c) (swapped x w (newAddress k (addressIn x w) c) (h .cells .words b) (new-small k (addressIn x w) c j)) h)
 
+  pub compares : (m : Machine) (x : Address) (a b c : ℕ) → c ≤ 999 → m .state .location ≤ 999 → Sound deck behind m
+      → Sound deck behind (comparedTo m x a b c)
+  compares m x a b c k l h =
+      goes _ (one-of (eqb (addressIn x (wordAt (m .cells) a)) b) (m .state .location + 1) c 1000 (omega arith) (omega arith)) h
+
   pub punches : (j : ℕ) (m : Machine) (b n : ℕ) → Sound deck behind m → Sound deck behind (cardsPunched j m b n)
   unfolding cardsPunched
   punches zero m b n h = h
@@ -238,6 +244,10 @@ module _ {deck : List ℕ} {behind : ℕ} where
           → Sound deck behind (cardsPunched (suc j) m b n)
       go true e r = rw (e, cardsPunched) h
       go false e r = rw (e, cardsPunched) r
+
+  pub moves : (m : Machine) (n b c : ℕ) → Sound deck behind m
+      → Sound deck behind (record { cells = cellsMoved (m .cells) n b c; sent = m .sent; state = m .state })
+  moves m n b c h = record { cells = moved-sound n b c (h .cells); state = h .state }
 
   pub retraces : (m : Machine) (t : Tracing) → m .state .location ≤ 999 → Sound deck behind m → Sound deck behind (retraced m t)
   retraces m StartTr l h = goes-on (rw (turned-location (m .state) 1) l) (traces 1 (omega arith) h)

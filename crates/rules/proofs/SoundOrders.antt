@@ -24,12 +24,12 @@ use Rattle.rules.specs.declared.Checked.the-variants.{Passes, Refuses}
 use Rattle.rules.specs.declared.Built.{Built}
 use Rattle.rules.specs.declared.Built.the-variants.{As, No}
 use Rattle.rules.specs.declared.Operation.{Operation}
-use Rattle.rules.specs.declared.Operation.the-variants.{Reckon, Move, Go, Loop, Change, Read, Pch, Trace}
+use Rattle.rules.specs.declared.Operation.the-variants.{Reckon, Move, Go, Loop, Change, Read, Pch, Trace, MoveBlock, Compare}
 use Rattle.rules.proofs.Tests.{both-second}
 use Rattle.rules.proofs.Results.{reckoned-fits}
 use Rattle.rules.proofs.Tails.{Tail}
 use Rattle.rules.proofs.Readers.{tail-from, read-leaves}
-use Rattle.rules.proofs.SoundChanges.{Sound, cards-stored, punched-location, either-sound, goes-on, stores, sends, reckons, goings, loops, changes, punches, retraces, reads-to}
+use Rattle.rules.proofs.SoundChanges.{Sound, cards-stored, punched-location, either-sound, goes-on, stores, sends, reckons, goings, loops, changes, compares, punches, moves, retraces, reads-to}
 
 module _ (i : Inputs) (behind : ℕ) (tail : Tail (i .deck) behind) where
   abbrev Keeps : Machine → Answer → Type 0
@@ -61,6 +61,8 @@ module _ (i : Inputs) (behind : ℕ) (tail : Tail (i .deck) behind) where
       either-sound (leb (length (m .sent) + punchSize n) (i .room)) (done (onward (cardsPunched n m b n))) (undone NoRoom m)
       (goes-on (rw (punched-location n m b n) l) (punches n m b n h)) h
   performs m (Trace t) a b c j k l h = retraces m t l h
+  performs m MoveBlock a b c j k l h = goes-on l (moves m a b c h)
+  performs m (Compare x) a b c j k l h = compares m x a b c k l h
 
   alloweds : (m : Machine) (o : Operation) (a b c : ℕ) (k : Checked) → b ≤ 999 → c ≤ 999 → m .state .location ≤ 999 → Keeps m (allowed i m o a b c k)
   alloweds m o a b c Passes p q l h = performs m o a b c p q l h

@@ -26,7 +26,7 @@ use Rattle.rules.specs.declared.Checked.the-variants.{Passes, Refuses}
 use Rattle.rules.specs.declared.Built.{Built}
 use Rattle.rules.specs.declared.Built.the-variants.{As, No}
 use Rattle.rules.specs.declared.Operation.{Operation}
-use Rattle.rules.specs.declared.Operation.the-variants.{Reckon, Move, Go, Loop, Change, Read, Pch, Trace}
+use Rattle.rules.specs.declared.Operation.the-variants.{Reckon, Move, Go, Loop, Change, Read, Pch, Trace, MoveBlock, Compare}
 use Rattle.rules.specs.declared.Going.{Going}
 use Rattle.rules.specs.declared.Going.the-variants.{UncStop, CondStop, TrSgn, TrExp, Tr, TrSubr, Noop}
 use Rattle.rules.proofs.Tests.{false-true}
@@ -78,6 +78,8 @@ performed-stays i m (Change k x) a b c = false-true
 performed-stays i m Read a b c = read-stays i m (judgedFrom (i .deck) (m .state .reader) b c)
 performed-stays i m Pch a b c = punched-stays i m b (c + 1 - b)
 performed-stays i m (Trace t) a b c = false-true
+performed-stays i m MoveBlock a b c = false-true
+performed-stays i m (Compare x) a b c = false-true
 
 allowed-stays : (i : Inputs) (m : Machine) (o : Operation) (a b c : ℕ) (k : Checked) → Stays m (allowed i m o a b c k)
 allowed-stays i m o a b c Passes = performed-stays i m o a b c

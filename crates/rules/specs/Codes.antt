@@ -12,14 +12,14 @@ use Rattle.rules.specs.declared.Cell.{Cell}
 use Rattle.rules.specs.declared.Refusal.{Refusal}
 use Rattle.rules.specs.declared.Refusal.the-variants.{BadAddress, Unmarked, NotNumber}
 use Rattle.rules.specs.declared.Operation.{Operation}
-use Rattle.rules.specs.declared.Operation.the-variants.{Reckon, Move, Go, Loop, Change, Read, Pch, Trace}
+use Rattle.rules.specs.declared.Operation.the-variants.{Reckon, Move, Go, Loop, Change, Read, Pch, Trace, MoveBlock, Compare}
 use Rattle.rules.specs.declared.Reckoning.the-variants.{Add, Sub, Mpy, Div, Ngmpy, Sqrt, Abs}
 use Rattle.rules.specs.declared.Going.the-variants.{UncStop, CondStop, TrSgn, TrExp, Tr, TrSubr, Noop}
 use Rattle.rules.specs.declared.Address.the-variants.{OfA, OfB, OfC}
 use Rattle.rules.specs.declared.Changing.the-variants.{SetTo, AddTo, SubFrom}
 use Rattle.rules.specs.declared.Tracing.the-variants.{StartTr, StopTr, StTrEras}
 use Rattle.rules.specs.declared.Class.{Class}
-use Rattle.rules.specs.declared.Class.the-variants.{Free, TwoNumbers, OneNumber, OneWord, Changed, Linked, BlockOut, BlockIn}
+use Rattle.rules.specs.declared.Class.the-variants.{Free, TwoNumbers, OneNumber, OneWord, Changed, Linked, BlockOut, BlockIn, BlockMoved, Compared}
 use Rattle.rules.specs.declared.Checked.{Checked}
 use Rattle.rules.specs.declared.Checked.the-variants.{Passes, Refuses}
 use Rattle.rules.specs.declared.Built.{Built}
@@ -49,7 +49,11 @@ codes =
     row 3000 (Reckon Mpy) TwoNumbers "MPY       " ∷
     row 4000 (Reckon Div) TwoNumbers "DIV       " ∷
     row 5000 (Reckon Ngmpy) TwoNumbers "NGMPY     " ∷
+    row 6000 (Compare OfA) Compared "TR A      " ∷
+    row 7000 (Compare OfB) Compared "TR B      " ∷
+    row 8000 (Compare OfC) Compared "TR C      " ∷
     row 9000 Move OneWord "MOVE      " ∷
+    row 9001 MoveBlock BlockMoved "MOVE      " ∷
     row 000 (Go UncStop) Free "UNC STOP  " ∷
     row 200 (Go CondStop) Free "COND STOP " ∷
     row 201 (Go TrSgn) Free "TR SGN    " ∷
@@ -91,7 +95,7 @@ unfoldable pub nameIn : ℕ → List Row → List ℕ
 nameIn k [] = bytes "-         "
 nameIn k (r ∷ rs) = pick (eqb k (r .code)) (r .name) (nameIn k rs)
 
--- The code of an order. MOVE with A not 000 is a code of its own, 9001, which is not built.
+-- The code of an order. MOVE with A not 000, the move of a block, has a code of its own, 9001.
 abbrev pub isBlockMove : ℕ → Bool
 isBlockMove w = both (eqb (firstDigit w) 9) (ltb 0 (aIn w))
 
@@ -109,19 +113,25 @@ abbrev pub unless : Bool → Refusal → Checked
 unless true r = Passes
 unless false r = Refuses r
 
--- 20: a block's B is not 000 nor above C; the cell that an order changes is not 000
+-- 20: a block's B is not 000 nor above C; a block of n cells that is moved, or moved to, begins behind 000 and ends at 999 at the latest;
+-- the cell that an order changes, or whose word it compares, is not 000
 abbrev pub blockFits : ℕ → ℕ → Bool
 blockFits b c = both (leb 1 b) (leb b c)
 
-abbrev pub addressCheck : Class → ℕ → ℕ → Checked
-addressCheck Free b c = Passes
-addressCheck TwoNumbers b c = Passes
-addressCheck OneNumber b c = Passes
-addressCheck OneWord b c = Passes
-addressCheck Changed b c = unless (leb 1 b) BadAddress
-addressCheck Linked b c = unless (leb 1 c) BadAddress
-addressCheck BlockOut b c = unless (blockFits b c) BadAddress
-addressCheck BlockIn b c = unless (blockFits b c) BadAddress
+abbrev pub blockLies : ℕ → ℕ → Bool
+blockLies b n = both (leb 1 b) (leb (b + n - 1) 999)
+
+abbrev pub addressCheck : Class → ℕ → ℕ → ℕ → Checked
+addressCheck Free a b c = Passes
+addressCheck TwoNumbers a b c = Passes
+addressCheck OneNumber a b c = Passes
+addressCheck OneWord a b c = Passes
+addressCheck Changed a b c = unless (leb 1 b) BadAddress
+addressCheck Linked a b c = unless (leb 1 c) BadAddress
+addressCheck BlockOut a b c = unless (blockFits b c) BadAddress
+addressCheck BlockIn a b c = unless (blockFits b c) BadAddress
+addressCheck BlockMoved a b c = unless (both (blockLies b a) (blockLies c a)) BadAddress
+addressCheck Compared a b c = unless (leb 1 a) BadAddress
 
 -- 21: each cell whose word is used is marked; a block's cells upward
 abbrev pub ownedAt : List Cell → ℕ → Bool
@@ -140,6 +150,8 @@ markCheck Changed v a b c = unless (ownedAt v b) Unmarked
 markCheck Linked v a b c = unless (ownedAt v c) Unmarked
 markCheck BlockOut v a b c = unless (ownedFrom v b (c + 1 - b)) Unmarked
 markCheck BlockIn v a b c = Passes
+markCheck BlockMoved v a b c = unless (ownedFrom v b a) Unmarked
+markCheck Compared v a b c = unless (ownedAt v a) Unmarked
 
 -- 24: each operand is a number
 abbrev pub numberCheck : Class → List Cell → ℕ → ℕ → Checked
@@ -151,7 +163,9 @@ numberCheck Changed v a b = Passes
 numberCheck Linked v a b = Passes
 numberCheck BlockOut v a b = Passes
 numberCheck BlockIn v a b = Passes
+numberCheck BlockMoved v a b = Passes
+numberCheck Compared v a b = Passes
 
 -- the three in their order
 unfoldable pub checked : Class → List Cell → ℕ → ℕ → ℕ → Checked
-checked k v a b c = andThen (addressCheck k b c) (andThen (markCheck k v a b c) (numberCheck k v a b))
+checked k v a b c = andThen (addressCheck k a b c) (andThen (markCheck k v a b c) (numberCheck k v a b))

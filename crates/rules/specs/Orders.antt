@@ -7,7 +7,7 @@ use lib.Dec.{eqb, leb, ltb}
 use lib.ListN.{length}
 use Rattle.rules.specs.Words.{pick, both, signIn, digitsIn, exponentIn, addressIn, withAddress}
 use Rattle.rules.specs.Arithmetic.{addOf, subOf, mpyOf, divOf, ngmpyOf, sqrtOf, absOf, lossIn}
-use Rattle.rules.specs.Drum.{wordAt}
+use Rattle.rules.specs.Drum.{wordAt, store}
 use Rattle.rules.specs.Cards.{dataCard}
 use Rattle.rules.specs.Decks.{dataFrom, cardsStored, judgedFrom}
 use Rattle.rules.specs.Machine.{Machine, Inputs, Answer, counting, countA, countB, countC, clearBox, numbered, readTo, tracingSet, isTraced, withState, stored, sending, goingTo, onward, done, undone, stops}
@@ -22,7 +22,7 @@ use Rattle.rules.specs.declared.Stop.the-variants.{Unconditional, Condit
 use Rattle.rules.specs.declared.Outcome.{Outcome}
 use Rattle.rules.specs.declared.Outcome.the-variants.{GoesOn, Stops}
 use Rattle.rules.specs.declared.Operation.{Operation}
-use Rattle.rules.specs.declared.Operation.the-variants.{Reckon, Move, Go, Loop, Change, Read, Pch, Trace}
+use Rattle.rules.specs.declared.Operation.the-variants.{Reckon, Move, Go, Loop, Change, Read, Pch, Trace, MoveBlock, Compare}
 use Rattle.rules.specs.declared.Reckoning.{Reckoning}
 use Rattle.rules.specs.declared.Reckoning.the-variants.{Add, Sub, Mpy, Div, Ngmpy, Sqrt, Abs}
 use Rattle.rules.specs.declared.Going.{Going}
@@ -147,6 +147,12 @@ changedWord k x w c = withAddress x w (newAddress k (addressIn x w) c)
 abbrev pub changed : Machine → Changing → Address → ℕ → ℕ → Machine
 changed m k x b c = onward (stored m b (changedWord k x (wordAt (m .cells) b) c))
 
+-- ---- address tests: an address of the word at A against B
+
+-- equal, go on; unequal, go to C
+abbrev pub comparedTo : Machine → Address → ℕ → ℕ → ℕ → Machine
+comparedTo m x a b c = goingTo m (pick (eqb (addressIn x (wordAt (m .cells) a)) b) (m .state .location + 1) c)
+
 -- ---- PCH: cells B to C, five a card, the last card the rest
 
 abbrev pub five : ℕ → ℕ
@@ -178,6 +184,20 @@ punchSize n = 11 * n + 11 * ((n + 4) / 5)
 unfoldable pub punched : Inputs → Machine → ℕ → ℕ → Answer
 punched i m b n =
     pick (leb (length (m .sent) + punchSize n) (i .room)) (done (onward (cardsPunched n m b n))) (undone NoRoom m)
+
+-- ---- block moves: n words, from b upward, go to c upward; cell 000 is not touched
+
+-- words go to the cells from c upward
+unfoldable pub storedFrom : ℕ → List ℕ → List Cell → List Cell
+storedFrom c [] v = v
+storedFrom c (w ∷ ws) v = storedFrom (c + 1) ws (store v c w)
+
+-- all are read before any is stored
+abbrev pub cellsMoved : List Cell → ℕ → ℕ → ℕ → List Cell
+cellsMoved v n b c = storedFrom c (wordsFrom v b n) v
+
+abbrev pub blockMoved : Machine → ℕ → ℕ → ℕ → Machine
+blockMoved m n b c = onward (record { cells = cellsMoved (m .cells) n b c; sent = m .sent; state = m .state })
 
 -- ---- READ: its cards are judged to the last before the first is stored
 
@@ -217,3 +237,5 @@ performed i m (Change k x) a b c = done (changed m k x b c)
 performed i m Read a b c = read i m (judgedFrom (i .deck) (m .state .reader) b c)
 performed i m Pch a b c = punched i m b (c + 1 - b)
 performed i m (Trace t) a b c = done (retraced m t)
+performed i m MoveBlock a b c = done (blockMoved m a b c)
+performed i m (Compare x) a b c = done (comparedTo m x a b c)

@@ -124,7 +124,8 @@ pub enum Tracing {
     StTrEras,
 }
 
-// The built operations, by family. A loop says of the counts A, B and C whether it raises them.
+// The built operations, by family. Move is MOVE 000, MoveBlock is MOVE with A not 000. A loop says of the counts A, B and C whether it raises
+// them.
 pub enum Operation {
     Reckon(Reckoning),
     Move,
@@ -134,6 +135,8 @@ pub enum Operation {
     Read,
     Pch,
     Trace(Tracing),
+    MoveBlock,
+    Compare(Address),
 }
 
 // Which of an order's addresses are used, and as what.
@@ -146,6 +149,8 @@ pub enum Class {
     Linked,
     BlockOut,
     BlockIn,
+    BlockMoved,
+    Compared,
 }
 
 // A code as looked up in the table of built codes.

@@ -20,6 +20,8 @@ use Rattle.words.proofs.changes.linked_word.Kinds as linked-word-kinds
 use Rattle.words.proofs.changes.linked_word.Reads as linked-word
 use Rattle.words.proofs.targets.sign_target.Kinds as sign-target-kinds
 use Rattle.words.proofs.targets.sign_target.Reads as sign-target
+use Rattle.words.proofs.targets.address_target.Kinds as address-target-kinds
+use Rattle.words.proofs.targets.address_target.Reads as address-target
 use Rattle.words.proofs.targets.exponent_target.Kinds as exponent-target-kinds
 use Rattle.words.proofs.targets.exponent_target.Reads as exponent-target
 
@@ -53,3 +55,6 @@ one-sign-target κs a x y s t p q = p ∙ sym q
 
 pub one-exponent-target : OneResult 0 exponent-target-kinds.ps exponent-target-kinds.r exponent-target.Post
 one-exponent-target κs a x y s t p q = p ∙ sym q
+
+pub one-address-target : OneResult 0 address-target-kinds.ps address-target-kinds.r address-target.Post
+one-address-target κs a x y s t p q = p ∙ sym q

@@ -4,6 +4,7 @@ mod targets;
 
 pub use changes::linked_word;
 pub use changes::new_address;
+pub use targets::address_target;
 pub use targets::exponent_target;
 pub use targets::sign_target;
 ghost use mathlib.Core.Path.{_≡_};

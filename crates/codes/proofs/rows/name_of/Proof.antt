@@ -18,7 +18,7 @@ returns c =
     at .row-at .ensures .2 ∙ ap (λ (n : ℕ). nameAt n codes) (row .row-of .ensures .0) ∙ named (start .args .code) codes
 
 -- behind the last row
-dash : (n : ℕ) → n ≡ 36 → bytes "-         " ≡ nameAt n codes
+dash : (n : ℕ) → n ≡ 40 → bytes "-         " ≡ nameAt n codes
 unfolding codes
 dash n e = ap (λ (i : ℕ). nameAt i codes) (sym e)
 

@@ -17,7 +17,7 @@ arm n e = (
   ap (λ (i : ℕ). nameAt i codes) (sym e),
 )
 
-last : (i : ℕ) → i < 36 → 35 ≤ i → i ≡ 35
+last : (i : ℕ) → i < 40 → 39 ≤ i → i ≡ 39
 last i l g = omega arith
 
 pub row-at-spec : {M : Type 1} → statement M
@@ -60,4 +60,8 @@ row-at-spec =
     (λ c. arm 32 (c .match .keys33))
     (λ c. arm 33 (c .match .keys34))
     (λ c. arm 34 (c .match .keys35))
-    (λ c. let start : tie.Start = search in arm 35 (last _ (start .pre) (past 35 _ (c .match .rest)))))
+    (λ c. arm 35 (c .match .keys36))
+    (λ c. arm 36 (c .match .keys37))
+    (λ c. arm 37 (c .match .keys38))
+    (λ c. arm 38 (c .match .keys39))
+    (λ c. let start : tie.Start = search in arm 39 (last _ (start .pre) (past 39 _ (c .match .rest)))))

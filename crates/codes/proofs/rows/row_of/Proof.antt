@@ -10,7 +10,7 @@ abbrev Inv-loop : tie.InvT-loop
 Inv-loop code i₀ i = Searched code i
 
 abbrev μ-loop : tie.MeasureT-loop
-μ-loop code i₀ i = 36 - i
+μ-loop code i₀ i = 40 - i
 
 loop-holds : tie.Need-loop-holds Inv-loop μ-loop
 loop-holds c = search-begin _

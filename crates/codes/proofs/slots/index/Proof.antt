@@ -1,4 +1,4 @@
--- `codes::slots::index` meets its contract: what is laid out in 36 turns is the row of each slot's code. Assumes nothing.
+-- `codes::slots::index` meets its contract: what is laid out in 40 turns is the row of each slot's code. Assumes nothing.
 use Prim.Native.Nat.{ℕ, _-_, _≤_}
 use mathlib.Core.Path.{_≡_, refl, sym, ap, _∙_}
 use mathlib.Core.List.{List}
@@ -11,10 +11,10 @@ use Rattle.codes.proofs.slots.index.Statement.{statement}
 use Rattle.codes.proofs.slots.index.Tie as tie
 
 abbrev Inv-loop : tie.InvT-loop
-Inv-loop traced index₀ i₀ index i = (index ≡ laidOut i) × (i ≤ 36)
+Inv-loop traced index₀ i₀ index i = (index ≡ laidOut i) × (i ≤ 40)
 
 abbrev μ-loop : tie.MeasureT-loop
-μ-loop traced index₀ i₀ index i = 36 - i
+μ-loop traced index₀ i₀ index i = 40 - i
 
 loop-holds : tie.Need-loop-holds Inv-loop μ-loop
 unfolding laidOut
@@ -66,14 +66,14 @@ returns : tie.Need-returns Inv-loop μ-loop
 returns c =
     let turn : tie.At-loop Inv-loop μ-loop = search in
     let after : tie.After-loop Inv-loop μ-loop = search in
-    let n : turn .loop .i ≡ 36 = omega (arith, turn .loop .inv .1, after .loop-test .left) in
+    let n : turn .loop .i ≡ 40 = omega (arith, turn .loop .inv .1, after .loop-test .left) in
     indexed _ _ (ap (λ (l : List ℕ). set l 410 (getD l 454 0)) (turn .loop .inv .0 ∙ ap laidOut n) ∙ laid-traced ∙ ap indexFor (sym (c .if1 .taken)))
 
 returns-2 : tie.Need-returns-2 Inv-loop μ-loop
 returns-2 c =
     let turn : tie.At-loop Inv-loop μ-loop = search in
     let after : tie.After-loop Inv-loop μ-loop = search in
-    let n : turn .loop .i ≡ 36 = omega (arith, turn .loop .inv .1, after .loop-test .left) in
+    let n : turn .loop .i ≡ 40 = omega (arith, turn .loop .inv .1, after .loop-test .left) in
     indexed _ _ (turn .loop .inv .0 ∙ ap laidOut n ∙ laid-plain ∙ ap indexFor (sym (c .if1 .left)))
 
 pub index-spec : {M : Type 1} → statement M

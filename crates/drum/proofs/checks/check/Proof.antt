@@ -28,6 +28,9 @@ returns-4 c =
     let fit : tie.After-block-fits = search in
     rw (told .enum-told8 .given .1, ← fit .block-fits .ensures, c .if4 .taken)
 
+returns-5 : tie.Need-returns-5
+returns-5 c = rw (c .enum-told .given .1)
+
 returns-6 : tie.Need-returns-6
 returns-6 c =
     let told : tie.After-enum-told2 = search in
@@ -67,6 +70,16 @@ returns-12 c =
     let fit : tie.After-block-fits = search in
     rw (told .enum-told8 .given .1, ← fit .block-fits .ensures, c .if4 .left)
 
+returns-13 : tie.Need-returns-13
+returns-13 c =
+    let told : tie.After-enum-told9 = search in
+    rw (told .enum-told9 .given .1) (c .check-move .ensures)
+
+returns-14 : tie.Need-returns-14
+returns-14 c =
+    let told : tie.After-enum-told10 = search in
+    rw (told .enum-told10 .given .1) (c .check-compared .ensures)
+
 pub check-spec : {M : Type 1} → statement M
 check-spec =
     tie.close
@@ -92,10 +105,16 @@ check-spec =
     (λ c κs. search needs)
     returns-4
     (λ c. search needs)
+    (λ c κs. search needs)
+    (λ c. search needs)
+    (λ c κs. search needs)
+    returns-5
     returns-6
     returns-7
     returns-8
     returns-9
     returns-10
     returns-11
-    returns-12)
+    returns-12
+    returns-13
+    returns-14)

@@ -14,8 +14,15 @@ punch-requires : tie.Need-punch-requires
 punch-requires c κs =
     let told : tie.After-enum-told3 = search in
     let start : tie.Start = search in
-    let x = subst (λ (o : Operation). Allowed o (start .args .b) (start .args .c)) (told .enum-told3 .given .1) (start .pre .1 .2) in
+    let x = subst (λ (o : Operation). Allowed o (start .args .a) (start .args .b) (start .args .c)) (told .enum-told3 .given .1) (start .pre .1 .2) in
     (start .pre .0 .1 .fitting, (x .0, x .1, start .pre .1 .1, start .pre .0 .1 .inside))
+
+move-block-requires : tie.Need-move-block-requires
+move-block-requires c κs =
+    let told : tie.After-enum-told4 = search in
+    let start : tie.Start = search in
+    let x = subst (λ (o : Operation). Allowed o (start .args .a) (start .args .b) (start .args .c)) (told .enum-told4 .given .1) (start .pre .1 .2) in
+    (start .pre .0 .1 .fitting, x .0, x .1)
 
 returns : tie.Need-returns
 unfolding performed
@@ -81,6 +88,22 @@ returns-8 c =
     let done : tie.After-retrace = search in
     rw (told .o5 .given .1) (done .retrace .ensures drum₀ out₀ _ m h)
 
+returns-9 : tie.Need-returns-9
+unfolding performed
+returns-9 c =
+    λ i l drum₀ out₀ m e h.
+    let told : tie.After-enum-told4 = search in
+    let done : tie.After-move-block = search in
+    rw (told .enum-told4 .given .1) (done .move-block .ensures drum₀ out₀ _ m h)
+
+returns-10 : tie.Need-returns-10
+unfolding performed
+returns-10 c =
+    λ i l drum₀ out₀ m e h.
+    let told : tie.After-o6 = search in
+    let done : tie.After-compare = search in
+    rw (told .o6 .given .1) (done .compare .ensures drum₀ out₀ _ m h)
+
 pub perform-spec : {M : Type 1} → statement M
 perform-spec =
     tie.close
@@ -99,6 +122,10 @@ perform-spec =
     (λ c κs. search needs)
     (λ c. search needs)
     punch-requires
+    (λ c. search needs)
+    (λ c κs. search needs)
+    (λ c. search needs)
+    move-block-requires
     (λ c. search needs)
     (λ c κs. search needs)
     (λ c. search needs)
@@ -123,4 +150,10 @@ perform-spec =
     returns-7
     (λ c. search needs)
     (λ c. search needs)
-    returns-8)
+    returns-8
+    (λ c. search needs)
+    (λ c. search needs)
+    returns-9
+    (λ c. search needs)
+    (λ c. search needs)
+    returns-10)
