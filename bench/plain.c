@@ -423,6 +423,32 @@ static int one(struct run *r, uint64_t o2, uint64_t b, uint64_t c)
     return OK;
 }
 
+/* MOVE of a block of a words, which the block that it goes to may overlap. */
+static int move(struct run *r, uint64_t a, uint64_t b, uint64_t c)
+{
+    if (b == 0 || c == 0 || b + a > CELLS || c + a > CELLS)
+        return ADDRESS;
+    if (__builtin_memchr(r->marks + b, 0, a))
+        return FOREIGN;
+    __builtin_memmove(r->drum + c, r->drum + b, a * sizeof *r->drum);
+    __builtin_memset(r->marks + c, 1, a);
+    r->s.at++;
+    return OK;
+}
+
+/* TR A, TR B and TR C, codes 6 to 8. */
+static int compare(struct run *r, uint64_t o1, uint64_t a, uint64_t b, uint64_t c)
+{
+    uint64_t w = r->drum[a], x;
+    if (a == 0)
+        return ADDRESS;
+    if (!r->marks[a])
+        return FOREIGN;
+    x = o1 == 6 ? w / 1000000 % 1000 : o1 == 7 ? w / 1000 % 1000 : w % 1000;
+    r->s.at = x == b ? r->s.at + 1 : c;
+    return OK;
+}
+
 /* SET, ADD and SUB of the address that is worth `unit` in the word. */
 static int change(struct run *r, int how, uint64_t unit, uint64_t b, uint64_t c)
 {
@@ -618,9 +644,9 @@ static int step(struct run *r)
         return by_code(r, a, b, c);
     if (o1 <= 5)
         return reckon(r, o1, a, b, c);
-    if (o1 == 9 && a == 0)
-        return one(r, 0, b, c);
-    return CODE;
+    if (o1 <= 8)
+        return compare(r, o1, a, b, c);
+    return a == 0 ? one(r, 0, b, c) : move(r, a, b, c);
 }
 
 struct l1_ended plain_run(uint64_t *drum, size_t cells, uint8_t *marks, size_t marks_len, const uint8_t *deck, size_t deck_len,
