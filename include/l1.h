@@ -113,7 +113,17 @@ struct l1_ended {
  * number is the first of 10 and the numbers of the deck, as for l1_load, and
  *   12: state_len is not 9, or the state or the budget is not one that a run may have: budget above 999,999, location above 1000, a
  *       count above 999, card counter above 9999, problem number above 999, mode above 1, tracing above mode, cell 000 not marked, or
- *       the reader neither at the start of a card behind the first-order card nor at the end of the deck. */
+ *       the reader neither at the start of a card behind the first-order card nor at the end of the deck.
+ *
+ * Why the order at the location was refused:
+ *   20: the location is 0 or 1000; of a minus order, an address with its count of the loop box is above 999; in PCH and READ B is 000 or
+ *       above C; in SET, ADD and SUB of an address B is 000; in TR SUBR C is 000; in MOVE with A from 001 one of the two blocks of A
+ *       cells, from B and from C, begins at 000 or goes past 999; in TR A, TR B and TR C A is 000;
+ *   21: the order's cell is not marked, or a cell whose word it uses: of MOVE with A from 001 one of the block from B, of TR A, TR B
+ *       and TR C that at A. A cell that is only stored in, gone to or shown need not be marked;
+ *   22: the trace card, or the cards of PCH, do not fit the room that is left; 23: the code is not built;
+ *   24: an operand is not a number; 25: a zero divisor; 26: the root of a number below zero; 27: the result is out of range;
+ *   28: the next card does not fit READ's block; 29: no card is left for it. */
 struct l1_ended l1_run(uint64_t *drum, size_t cells, uint8_t *marks, size_t marks_len, const uint8_t *deck, size_t deck_len,
                        uint8_t *out, size_t room, uint64_t *state, size_t state_len, uint64_t budget, uint64_t stop);
 

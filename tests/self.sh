@@ -149,6 +149,14 @@ sessions smaller-exponent zero-result two-stops three-does-not add-alone sub-alo
     not-while-tracing traced-alone plus-orders-alone before-27 told-as-01 02-at-the-end shows-nothing shows-an-operand not-counted \
     location-stays 0-behind-999 not-stored-at-c not-stored-at-000 one-order-more
 END
+build_c driver-moves panel tests/self/moves.c || exit 2
+fails 'sessions, no fault of moves' without_fault moves sessions
+for fault in from-000 to-000 source-to-1000 destination-to-1000 21-before-20 one-source-cell-asked-for destination-asked-for stores-before-21 \
+    numbers-alone from-the-first-on from-the-last-on a-word-short minus-zero-lost not-marked source-given-up first-word-in-000 \
+    last-word-in-000 block-by-the-stored-a a-not-traced 23 location-stays not-counted test-of-000 test-of-a-foreign-cell b-asked-for \
+    c-asked-for a-for-b a-for-c b-for-a b-for-c c-for-a c-for-b two-digits at-least b-of-a-cell minus-unequal equal-to-c test-23; do
+    fails "sessions, moves: $fault" with_fault moves sessions "$fault"
+done
 build_c judged-silent panel tests/self/silent.c || exit 2
 fails 'yardstick, silent' no_difference judged sessions
 echo "self: $tried checks tried with what does not work, $blind do not see it"

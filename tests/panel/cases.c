@@ -1,6 +1,6 @@
 /* A table of calls of the C face with what the paper says of each: P1 to P10 of its table, the turns of its rules, decks, the paper's
- * session, runs that stop for lost digits, calls that are refused at their entry, and decks made of drums. Writes a line for each wrong
- * answer, and a last line with the counts. */
+ * session, runs that stop for lost digits, block moves and address tests, calls that are refused at their entry, and decks made of drums.
+ * Writes a line for each wrong answer, and a last line with the counts. */
 #include "l1.h"
 
 int printf(const char *format, ...);
@@ -444,6 +444,100 @@ static void losses(void)
     expect_out("the run that goes on", "X0002102+0000202000+0000202000+0000000000+0000000000+7800000044+7800000044007");
 }
 
+/* A deck of one order in 500, made anew for each; all other cells are foreign. */
+static char lone[] = "10000500+0000000000007T500007";
+
+static void set_lone(uint64_t order)
+{
+    size_t i;
+    lone[8] = order < MINUS ? '+' : '-';
+    for (i = 18; i > 8; i--, order /= 10)
+        lone[i] = (char)('0' + order % 10);
+    clear();
+    load(lone, CELLS, STATE, 0);
+}
+
+/* One move of n words, all of whose words are the job's: each cell behind it. Every other cell of the drum is the job's or is not. */
+static void move_once(size_t n, size_t b, size_t c)
+{
+    static uint64_t words[CELLS];
+    static uint8_t owned[CELLS];
+    struct l1_ended r;
+    size_t i, same = 0;
+
+    set_lone(9000000000ul + n * 1000000 + b * 1000 + c);
+    for (i = 1; i < CELLS; i++)
+        if (i != 500 && ((b <= i && i < b + n) || i % 7 == 3)) {
+            drum[i] = i % 5 == 0 ? MINUS : i % 5 == 1 ? i : MINUS + ONE + i * 100;
+            marks[i] = 1;
+        }
+    for (i = 0; i < CELLS; i++) {
+        words[i] = drum[i];
+        owned[i] = marks[i];
+    }
+    r = run(lone, CELLS, STATE, ROOM, 1, 1);
+    expect_ended("a block move", r, 2, 0, 1, 0, 0);
+    for (i = 0; i < CELLS; i++) {
+        size_t from = c <= i && i < c + n ? i - c + b : i;
+        same += drum[i] == words[from] && marks[i] == owned[from];
+    }
+    expect("the cells behind a block move", state[0], same, 501, CELLS);
+}
+
+/* Block moves of every overlap at both ends of the drum and around the order itself, and of all cells; then refusals, and address tests. */
+static void moves(void)
+{
+    static const struct {
+        const char *what;
+        uint64_t order, number, location;
+    } all[] = {
+        {"a block move from 000", 9001000500, 20, 500},
+        {"a block move to 000", 9001500000, 20, 500},
+        {"a block that ends at 1000", 9002999500, 20, 500},
+        {"a block that would end at 1000", 9002500999, 20, 500},
+        {"the longest block a cell up", 9999001002, 20, 500},
+        {"the longest block", 9999001001, 21, 500},
+        {"a foreign block that would end at 1000", 9002600999, 20, 500},
+        {"a foreign cell moved", 9001501500, 21, 500},
+        {"a block whose last cell is foreign", 9002500600, 21, 500},
+        {"a foreign destination", 9001500999, 2, 501},
+        {"an order onto itself", 9001500500, 2, 501},
+        {"MOVE 000 to 000", 9000500000, 2, 501},
+        {"MOVE 000 with a minus, and a clear box", MINUS + 9000500999, 2, 501},
+        {"TR A of its own address, equal", 6500500009, 2, 501},
+        {"TR A, unequal", 6500501009, 2, 9},
+        {"TR B of its own address, equal", 7500500009, 2, 501},
+        {"TR B of its own address, which B always is", 7500123009, 2, 501},
+        {"TR C of its own address, equal", 8500009009, 2, 501},
+        {"TR C, unequal", 8500500009, 2, 9},
+        {"TR A with a minus", MINUS + 6500500009, 2, 501},
+        {"TR C to 000", 8500001000, 2, 0},
+        {"TR A of cell 000", 6000000009, 20, 500},
+        {"TR B of a foreign cell", 7501000009, 21, 500},
+    };
+    size_t n, far, i;
+
+    for (n = 1; n <= 6; n++)
+        for (far = 0; far <= n + 1; far++) {
+            move_once(n, 1, 1 + far);
+            move_once(n, 1 + far, 1);
+            move_once(n, CELLS - n, CELLS - n - far);
+            move_once(n, CELLS - n - far, CELLS - n);
+            move_once(n, 499, 499 + far);
+            move_once(n, 499 + far, 499);
+        }
+    move_once(999, 1, 1);
+    move_once(998, 1, 2);
+    move_once(998, 2, 1);
+    for (i = 0; i < COUNT(all); i++) {
+        struct l1_ended r;
+        set_lone(all[i].order);
+        r = run(lone, CELLS, STATE, ROOM, 1, 1);
+        expect_ended(all[i].what, r, all[i].number, 0, all[i].number == 2, 0, 0);
+        expect(all[i].what, 0, state[0], 0, all[i].location);
+    }
+}
+
 /* Check 10 before the numbers of the deck, and these before 12, in both calls, with nothing changed. */
 static void refusals(void)
 {
@@ -703,6 +797,7 @@ int main(void)
     paper_session();
     switches();
     losses();
+    moves();
     refusals();
     long_refusals();
     makes();

@@ -25,3 +25,4 @@ pub mod CardFaults
 pub mod DeckChecks
 pub mod DeckFound
 pub mod DeckFaults
+pub mod BlockMoves

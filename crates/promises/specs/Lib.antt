@@ -15,3 +15,4 @@ pub mod Prepared
 pub mod LossStops
 pub mod LostDigits
 pub mod DeckFaults
+pub mod BlockMoves

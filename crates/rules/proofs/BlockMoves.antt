@@ -3,18 +3,24 @@
 use Prim.Native.Nat.{ℕ, zero, suc, _+_, _≤_, _<_}
 use mathlib.Core.Path.{_≡_, refl, sym, ap, _∙_}
 use mathlib.Core.List.{List, [], _∷_, _++_}
+use mathlib.Core.Bool.{Bool, true, false}
 use native.Mathlib.Nat.{le-of-suc-le-suc}
 use native.Mathlib.Numerals.{add-one}
 use native.Mathlib.Omega.{arith}
+use lib.Dec.{eqb}
 use lib.ListN.{length, getD, length-set}
 use lib.Seq.{getD-set-same, getD-set-other, set-comm}
+use borrow.Author.Tests.{eqb-true, eqb-false}
 use Rattle.rules.specs.Drum.{cellAt, wordAt, store}
+use Rattle.rules.specs.Codes.{ownedAt, ownedFrom}
 use Rattle.rules.specs.Orders.{wordsFrom, storedFrom, cellsMoved}
 use Rattle.rules.specs.declared.Cell.{Cell}
 use Rattle.rules.specs.declared.Cell.the-variants.{Foreign, Owned}
+use Rattle.rules.proofs.Tests.{both-first, both-second}
 use Rattle.rules.proofs.Views.{Grows, store-grows}
 use Rattle.rules.proofs.Sound.{Cells, cells-stored}
 use Rattle.rules.proofs.Punching.{words-long}
+use Rattle.rules.proofs.MadeDecks.{word-of}
 
 pub stored-long : (c : ℕ) (ws : List ℕ) (v : List Cell) → length (storedFrom c ws v) ≡ length v
 unfolding storedFrom
@@ -107,3 +113,25 @@ moved-first v n b c =
 -- what stands outside the cells that are moved to is as it was
 pub moved-elsewhere : (v : List Cell) (n b c x : ℕ) → (c ≤ x → x < c + n → ⊥) → cellAt (cellsMoved v n b c) x ≡ cellAt v x
 moved-elsewhere v n b c x f = stored-elsewhere c (wordsFrom v b n) v x (λ l k. f l (omega (arith, words-long v b n)))
+
+-- each cell that is moved to is what its source was, where that is marked
+pub moved-there : (v : List Cell) (n b c k : ℕ) → c + n ≤ length v → k < n → cellAt (cellsMoved v n b c) (c + k) ≡ Owned (wordAt v (b + k))
+moved-there v n b c k l f =
+    stored-there c (wordsFrom v b n) v k (omega (arith, words-long v b n)) (omega (arith, words-long v b n)) ∙ ap Owned (word-of v b n k f)
+
+-- ---- the marks of a block
+
+pub owned-each : (v : List Cell) (b n k : ℕ) → ownedFrom v b n ≡ true → k < n → ownedAt v (b + k) ≡ true
+unfolding ownedFrom
+owned-each v b zero k e l = let z : ⊥ = omega arith in absurd z
+owned-each v b (suc n) k e l =
+    by-last (eqb k n) refl (owned-each v b n k (both-first (ownedFrom v b n) (ownedAt v (b + n)) e))
+  where
+    by-last : (t : Bool) → eqb k n ≡ t → (k < n → ownedAt v (b + k) ≡ true) → ownedAt v (b + k) ≡ true
+    by-last true f g = rw (eqb-true k n f) (both-second (ownedFrom v b n) (ownedAt v (b + n)) e)
+    by-last false f g = let q = eqb-false k n f in g (omega arith)
+
+pub owned-all : (v : List Cell) (b n : ℕ) → ((k : ℕ) → k < n → ownedAt v (b + k) ≡ true) → ownedFrom v b n ≡ true
+unfolding ownedFrom
+owned-all v b zero f = refl
+owned-all v b (suc n) f = rw (owned-all v b n (λ k l. f k (omega arith)), f n (omega arith))

@@ -39,3 +39,4 @@ pub mod Blocks
 pub mod MadeSizes
 pub mod MadeCells
 pub mod MadeDecks
+pub mod MovedBlocks

@@ -32,7 +32,7 @@ use Rattle.rules.proofs.MadeCells.{AllBear, no-card, one-card}
 
 -- ---- the words of a block
 
-word-of : (v : List Cell) (b n i : ℕ) → i < n → getD (wordsFrom v b n) i 0 ≡ wordAt v (b + i)
+pub word-of : (v : List Cell) (b n i : ℕ) → i < n → getD (wordsFrom v b n) i 0 ≡ wordAt v (b + i)
 unfolding wordsFrom
 word-of v b zero i h = let z : ⊥ = omega arith in absurd z
 word-of v b (suc n) i h = by-last (ltb i n) refl (word-of v b n i)

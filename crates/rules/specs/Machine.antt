@@ -19,7 +19,7 @@ pub record Machine : Type 0 where
   pub state : State
 
 -- Which requests after the base a run goes by: whether a sum that has lost its digits may stop it. A run goes by all of them; the base is
--- there so that the two can be held against each other.
+-- there so that the two can be held against each other. A request that builds what was refused before has no field.
 pub record Requests : Type 0 where
   pub lossStops : Bool
 
