@@ -50,6 +50,11 @@ pub enum Large {
     PchOfHundreds,
     /// After 9999 comes 0000 within its cards, and not before the first.
     PchWraps,
+    /// A block move of more than 255 words onto a part of its own source, upward or downward.
+    MoveUp,
+    MoveDown,
+    /// A block move of all 999 cells.
+    MoveOfAll,
     /// A run that writes more than 65,535 bytes, as trace cards or as punched ones.
     TracedOutput,
     PunchedOutput,
@@ -79,6 +84,90 @@ pub enum Loss {
     BelowRange,
     /// It does not stop with the switch on RUN, though more than two digits have gone.
     OnRun,
+}
+
+/// A block move of so few words is a short one.
+pub const SHORT: u64 = 6;
+
+/// How the two blocks of a long move lie to each other. `up`: C is above B.
+#[derive(Clone, Copy, Debug, PartialEq, Eq, PartialOrd, Ord)]
+pub enum Lie {
+    Same,
+    /// They share cells.
+    Over {
+        up: bool,
+    },
+    /// The one begins where the other ends.
+    Next {
+        up: bool,
+    },
+    Apart {
+        up: bool,
+    },
+}
+
+/// How much of a destination is marked before the move.
+#[derive(Clone, Copy, Debug, PartialEq, Eq, PartialOrd, Ord)]
+pub enum Owned {
+    All,
+    Part,
+    None,
+}
+
+/// What a block move that is done has about it.
+#[derive(Clone, Copy, Debug, PartialEq, Eq, PartialOrd, Ord)]
+pub enum Moved {
+    /// From B to C are so many cells. As many as there are words, and the blocks are neighbours; one
+    /// more stands for all that are farther apart.
+    Short {
+        words: u64,
+        by: u64,
+        up: bool,
+    },
+    Long(Lie),
+    SourceFrom1,
+    DestinationFrom1,
+    SourceTo999,
+    DestinationTo999,
+    /// Among the words: minus zero, another word that is no number.
+    MinusZero,
+    NoNumber,
+    Destination(Owned),
+    /// The destination holds the order itself, or the next one; the source holds the order.
+    OverItself,
+    OverNext,
+    FromItself,
+    /// The trace card shows a word in cell A that is not plus zero, or the cell is not marked.
+    ShowsA {
+        marked: bool,
+    },
+    /// The order is stored as MOVE 000, and the loop box has made it.
+    FromMove000,
+    /// It is not a block move: such an order with no count to add to A.
+    AsMove000,
+}
+
+/// What TR A, TR B or TR C has about it that is done.
+#[derive(Clone, Copy, Debug, PartialEq, Eq, PartialOrd, Ord)]
+pub enum Test {
+    /// A is the order's own cell.
+    OwnCell,
+    /// B is the named address, and none of the other two.
+    OnlyNamed,
+    /// B is this address, and not the named one.
+    Other(Field),
+    /// The word at A is plus or minus; minus zero; another word that is no number.
+    Plus,
+    Minus,
+    MinusZero,
+    NoNumber,
+    /// It is minus, and the loop box has a count for the named address.
+    LiveBox,
+    /// B or C is 000.
+    B000,
+    C000,
+    /// The order is at 999.
+    At999,
 }
 
 #[derive(Clone, Copy, Debug, PartialEq, Eq, PartialOrd, Ord)]
@@ -147,6 +236,19 @@ pub enum Event {
     /// Told besides, of a run that does orders behind one that was stopped for lost digits.
     WentOnBehindLoss {
         traced: bool,
+    },
+    /// Told besides.
+    Moved(Moved),
+    /// Told besides, of a block move that one line of 20 alone speaks against; `unmarked`: so does 21.
+    MoveRefused {
+        reason: Reason,
+        unmarked: bool,
+    },
+    /// Told besides.
+    Tested {
+        field: Field,
+        equal: bool,
+        test: Test,
     },
     /// Told besides.
     Large(Large),

@@ -1,6 +1,7 @@
 //! One order after another.
 
 use super::arithmetic::{lost, OutOfRange};
+use super::besides::{of_move, of_refused_move, of_test, Scene};
 use super::deck::Deck;
 use super::drum::Drum;
 use super::event::{Event, Large, Loss, Tracing, Way};
@@ -52,6 +53,7 @@ impl Machine<'_> {
                 let (way, stop) = (effects.way, effects.stop);
                 let modified = order.word() != stored;
                 self.tell_of_block(code, order, &effects.state);
+                self.tell_of_addresses(code, Order::of_word(stored), order);
                 self.apply(order, effects);
                 (self.witness)(Event::Completed {
                     code,
@@ -64,6 +66,11 @@ impl Machine<'_> {
             }
             Err(reason) => {
                 (self.witness)(Event::OrderRefused { code, reason, tracing });
+                if let (Code::Move, Some((reason, unmarked))) =
+                    (code, of_refused_move(order, &self.drum))
+                {
+                    (self.witness)(Event::MoveRefused { reason, unmarked });
+                }
                 Err(reason)
             }
         }
@@ -77,7 +84,26 @@ impl Machine<'_> {
         }
     }
 
-    /// What is large about the block of a READ or a PCH that is about to be done.
+    /// What a move, TR A, TR B or TR C has about it that is about to be done.
+    fn tell_of_addresses(&mut self, code: Code, stored: Order, order: Order) {
+        let scene = Scene { stored, order, drum: &self.drum, state: &self.state };
+        match code {
+            Code::Move | Code::Move000 => {
+                for moved in of_move(code, &scene) {
+                    (self.witness)(Event::Moved(moved));
+                }
+            }
+            Code::TrAddress(field) => {
+                let (equal, tests) = of_test(field, &scene);
+                for test in tests {
+                    (self.witness)(Event::Tested { field, equal, test });
+                }
+            }
+            _ => {}
+        }
+    }
+
+    /// What is large about the block of a READ, a PCH or a MOVE that is about to be done.
     fn tell_of_block(&mut self, code: Code, order: Order, after: &State) {
         let before = self.state;
         let over_itself = (order.b..=order.c).contains(&before.location);
@@ -95,6 +121,14 @@ impl Machine<'_> {
                 (cells > 255, Large::PchOfHundreds),
                 (wraps, Large::PchWraps),
             ],
+            Code::Move => {
+                let over = order.a > 255 && order.b.abs_diff(order.c) < order.a;
+                vec![
+                    (over && order.c > order.b, Large::MoveUp),
+                    (over && order.c < order.b, Large::MoveDown),
+                    (order.a == 999, Large::MoveOfAll),
+                ]
+            }
             _ => return,
         };
         for (_, large) in told.into_iter().filter(|(holds, _)| *holds) {

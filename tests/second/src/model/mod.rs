@@ -1,6 +1,7 @@
 //! The rules of the paper.
 
 pub mod arithmetic;
+mod besides;
 pub mod calls;
 pub mod card;
 pub mod deck;

@@ -74,6 +74,8 @@ pub enum Code {
     OfTwo(OfTwo),
     OfOne(OfOne),
     Move000,
+    /// Of a block: A is not 000.
+    Move,
     CondStop,
     UncStop,
     TrSgn,
@@ -83,6 +85,8 @@ pub enum Code {
     /// Which of the counts A, B, C are named.
     Loop([bool; 3]),
     Change(Change, Field),
+    /// TR A, TR B, TR C: the address that is compared.
+    TrAddress(Field),
     Pch,
     Read,
     StartTr,
@@ -96,6 +100,8 @@ pub enum Code {
 pub enum Second {
     /// An address A, and any one.
     Any,
+    /// An A that is not 000.
+    AnyBut000,
     /// An O2, or an A that is part of the code.
     Just(u64),
 }
@@ -114,6 +120,7 @@ impl Built {
     pub fn a(self, address: u64) -> u64 {
         match self.second {
             Second::Any => address,
+            Second::AnyBut000 => address.max(1),
             Second::Just(digits) => digits,
         }
     }
@@ -127,17 +134,25 @@ const fn any(o1: u64, code: Code, name: &'static str) -> Built {
     Built { o1, second: Second::Any, code, name }
 }
 
+const fn any_but_000(o1: u64, code: Code, name: &'static str) -> Built {
+    Built { o1, second: Second::AnyBut000, code, name }
+}
+
 const fn just(o1: u64, digits: u64, code: Code, name: &'static str) -> Built {
     Built { o1, second: Second::Just(digits), code, name }
 }
 
-pub const BUILT: [Built; 36] = [
+pub const BUILT: [Built; 40] = [
     any(1, Code::OfTwo(OfTwo::Add), "ADD"),
     any(2, Code::OfTwo(OfTwo::Sub), "SUB"),
     any(3, Code::OfTwo(OfTwo::Mpy), "MPY"),
     any(4, Code::OfTwo(OfTwo::Div), "DIV"),
     any(5, Code::OfTwo(OfTwo::Ngmpy), "NGMPY"),
+    any(6, Code::TrAddress(Field::A), "TR A"),
+    any(7, Code::TrAddress(Field::B), "TR B"),
+    any(8, Code::TrAddress(Field::C), "TR C"),
     just(9, 0, Code::Move000, "MOVE 000"),
+    any_but_000(9, Code::Move, "MOVE"),
     just(0, 0, Code::UncStop, "UNC STOP"),
     just(0, 200, Code::CondStop, "COND STOP"),
     just(0, 201, Code::TrSgn, "TR SGN"),
@@ -200,13 +215,12 @@ mod tests {
     fn the_codes_that_are_built() {
         let built = |o1, a| code(Order { minus: false, o1, a, b: 0, c: 0 }).is_some();
         assert_eq!((0..1000).filter(|&a| built(0, a)).count(), 30);
-        for o1 in 1..=5 {
+        for o1 in 1..=9 {
             assert!((0..1000).all(|a| built(o1, a)));
         }
-        for o1 in 6..=8 {
-            assert!((0..1000).all(|a| !built(o1, a)));
-        }
-        assert!(built(9, 0) && (1..1000).all(|a| !built(9, a)));
+        let moves = |a| code(Order { minus: false, o1: 9, a, b: 0, c: 0 });
+        assert_eq!(moves(0), Some(Code::Move000));
+        assert!((1..1000).all(|a| moves(a) == Some(Code::Move)));
         for o2 in [2, 205, 301, 305, 351, 355, 401, 453, 112, 200 + 10] {
             assert!(!built(0, o2));
         }

@@ -33,6 +33,21 @@ impl Turn {
     }
 }
 
+/// By how much the end of a block is past 999.
+#[derive(Clone, Copy, Debug, PartialEq, Eq, PartialOrd, Ord)]
+pub enum Past {
+    ByOne,
+    Far,
+}
+
+/// Which cell of a block is the lowest that is not marked. The first of all comes before the last.
+#[derive(Clone, Copy, Debug, PartialEq, Eq, PartialOrd, Ord)]
+pub enum Hole {
+    First,
+    Middle,
+    Last,
+}
+
 /// How the length of something lent is wrong.
 #[derive(Clone, Copy, Debug, PartialEq, Eq, PartialOrd, Ord)]
 pub enum Length {
@@ -117,11 +132,16 @@ pub enum Reason {
     SumAbove999(Field),
     BlockFrom000,
     BlockBackward,
+    BlockTo000,
+    /// The source of a block move, at B, or its destination, at C.
+    BlockPast999(Field, Past),
+    TestOf000,
     ChangeOf000,
     SubroutineAt000,
     OrderUnmarked,
     Unmarked(Field),
     BlockUnmarked,
+    SourceUnmarked(Hole),
     NoRoomForTrace,
     NoRoomForPunch,
     NoRoomForDeck,
@@ -152,7 +172,8 @@ impl Reason {
             FirstOrder000 | FirstOrderAbove999 => 12,
             Location000 | LocationPast999 | SumAbove999(_) => 20,
             BlockFrom000 | BlockBackward | ChangeOf000 | SubroutineAt000 => 20,
-            OrderUnmarked | Unmarked(_) | BlockUnmarked => 21,
+            BlockTo000 | BlockPast999(..) | TestOf000 => 20,
+            OrderUnmarked | Unmarked(_) | BlockUnmarked | SourceUnmarked(_) => 21,
             NoRoomForTrace | NoRoomForPunch | NoRoomForDeck => 22,
             NotBuilt => 23,
             NotNumber(_) => 24,

@@ -5,7 +5,7 @@ use std::collections::BTreeMap;
 use super::draw::codes;
 use super::makes::{self, Seen};
 use super::reach;
-use crate::model::event::Event;
+use crate::model::event::{Event, Moved, Test, Way};
 use crate::model::order::{Built, Code, Second, BUILT};
 use crate::model::stop::Reason;
 use crate::verdict::{often_enough, Verdict};
@@ -39,7 +39,7 @@ impl Coverage {
     pub fn tell(&self) {
         for Built { o1, second, code, name } in BUILT {
             let operation = match second {
-                Second::Any => format!("{o1}"),
+                Second::Any | Second::AnyBut000 => format!("{o1}"),
                 Second::Just(digits) => format!("{o1} {digits:03}"),
             };
             println!("covered: {operation} {name}: {}", self.of_code(code));
@@ -61,9 +61,49 @@ impl Coverage {
         for event in reach::of_loss_stops() {
             println!("covered: {event:?}: {}", self.times(|other| other == event));
         }
+        self.tell_moves();
+        self.tell_tests();
         for large in reach::LARGE {
             println!("covered: {large:?}: {}", self.times(|event| event == Event::Large(large)));
         }
+    }
+
+    /// Short block moves by the number of their words, with the distance that came least often.
+    fn tell_moves(&self) {
+        let mut short: BTreeMap<u64, Vec<u64>> = BTreeMap::new();
+        for event in reach::of_moves() {
+            let times = self.times(|other| other == event);
+            match event {
+                Event::Moved(Moved::Short { words, .. }) => {
+                    short.entry(words).or_default().push(times)
+                }
+                _ => println!("covered: {event:?}: {times}"),
+            }
+        }
+        for (words, times) in short {
+            let (sum, least) = (times.iter().sum::<u64>(), times.iter().min().unwrap_or(&0));
+            println!("covered: Short({words} words): {sum}, each distance {least} times or more");
+        }
+    }
+
+    fn tell_tests(&self) {
+        for wanted in reach::TESTS {
+            let [equal, unequal] = [true, false].map(|way| {
+                self.times(|event| match event {
+                    Event::Tested { equal, test, .. } => equal == way && test == wanted,
+                    _ => false,
+                })
+            });
+            println!("covered: Tested({wanted:?}): equal {equal}, unequal {unequal}");
+        }
+        let [only, other] = [true, false].map(|equal| {
+            self.times(|event| match event {
+                Event::Tested { test: Test::OnlyNamed, .. } => equal,
+                Event::Tested { test: Test::Other(_), .. } => !equal,
+                _ => false,
+            })
+        });
+        println!("covered: Tested(OnlyNamed): equal {only}; Tested(Other): unequal {other}");
     }
 
     /// Requires all that sessions drawn by chance can come to.
@@ -83,12 +123,33 @@ impl Coverage {
                 }
                 _ => false,
             });
-            let codes = if built.second == Second::Any { 1_000 } else { 1 };
+            let codes = match built.second {
+                Second::Any => 1_000,
+                Second::AnyBut000 => 999,
+                Second::Just(_) => 1,
+            };
             verdict.require(built.name, seen, codes * codes::RUNS);
+            self.require_done(built, verdict);
         }
         let not_built =
             self.times(|event| matches!(event, Event::Refused { reason: Reason::NotBuilt, .. }));
         verdict.require("codes that are not built", not_built, codes::NOT_BUILT * codes::RUNS);
+    }
+
+    /// Block moves are really done, and of address tests both ends.
+    fn require_done(&self, built: Built, verdict: &mut Verdict) {
+        let (ways, least) = match built.code {
+            Code::Move => (vec![Way::On], codes::MOVED),
+            Code::TrAddress(_) => (vec![Way::On, Way::ToC], codes::EITHER_WAY),
+            _ => return,
+        };
+        for wanted in ways {
+            let done = self.times(|event| match event {
+                Event::Completed { code, way, .. } => code == built.code && way == wanted,
+                _ => false,
+            });
+            verdict.require(format!("{} done, {wanted:?}", built.name), done, least);
+        }
     }
 
     pub fn tell_makings(&self) {

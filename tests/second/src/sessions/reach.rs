@@ -3,10 +3,12 @@
 use crate::model::arithmetic::OutOfRange;
 use crate::model::card::CardFault;
 use crate::model::deck::Fault;
-use crate::model::event::{Before, Event, Large, Loss, Tracing, Way};
+use crate::model::event::{
+    Before, Event, Large, Lie, Loss, Moved, Owned, Test, Tracing, Way, SHORT,
+};
 use crate::model::operation::{OfOne, OfTwo};
 use crate::model::order::{Code, Second, BUILT};
-use crate::model::stop::{Above, Astray, Field, Length, Mark, Reason, Turn, FIELDS};
+use crate::model::stop::{Above, Astray, Field, Hole, Length, Mark, Past, Reason, Turn, FIELDS};
 
 pub const TRACINGS: [Tracing; 3] = [Tracing::Plain, Tracing::Off, Tracing::On];
 
@@ -16,7 +18,9 @@ fn ways(code: Code) -> Vec<(Way, bool)> {
         Code::CondStop => vec![(Way::ToC, true), (Way::ToC, false)],
         Code::UncStop => vec![(Way::Stays, true)],
         Code::TrSgn => vec![(Way::ToB, false), (Way::ToC, false)],
-        Code::TrExp | Code::Loop(_) => vec![(Way::ToC, false), (Way::On, false)],
+        Code::TrExp | Code::Loop(_) | Code::TrAddress(_) => {
+            vec![(Way::ToC, false), (Way::On, false)]
+        }
         Code::Tr | Code::TrSubr => vec![(Way::ToC, false)],
         Code::OfTwo(operation) if operation.is_sum() => vec![(Way::On, true), (Way::On, false)],
         _ => vec![(Way::On, false)],
@@ -43,6 +47,12 @@ fn refusals(code: Code) -> Vec<Reason> {
         Code::OfOne(OfOne::Sqrt) => vec![Unmarked(Field::B), NotNumber(Field::B), NegativeRoot],
         Code::OfOne(OfOne::Abs) => vec![Unmarked(Field::B), NotNumber(Field::B)],
         Code::Move000 => vec![Unmarked(Field::B)],
+        Code::Move => {
+            let mut reasons = MOVE_FAULTS.to_vec();
+            reasons.extend([Hole::First, Hole::Middle, Hole::Last].map(SourceUnmarked));
+            reasons
+        }
+        Code::TrAddress(_) => vec![TestOf000, Unmarked(Field::A)],
         Code::TrSubr => vec![SubroutineAt000, Unmarked(Field::C)],
         Code::Change(..) => vec![ChangeOf000, Unmarked(Field::B)],
         Code::Pch => vec![BlockFrom000, BlockBackward, BlockUnmarked, NoRoomForPunch],
@@ -90,6 +100,8 @@ pub fn of_orders() -> Vec<Event> {
     }
     events.extend(sums());
     events.extend(losses());
+    events.extend(of_moves());
+    events.extend(of_tests());
     events
 }
 
@@ -136,6 +148,70 @@ pub fn of_loss_stops() -> Vec<Event> {
     for traced in [false, true] {
         events.extend([false, true].map(|last| Event::StoppedForLoss { last, traced }));
         events.push(Event::WentOnBehindLoss { traced });
+    }
+    events
+}
+
+/// The lines of 20 for a block move.
+const MOVE_FAULTS: [Reason; 6] = [
+    Reason::BlockPast999(Field::B, Past::ByOne),
+    Reason::BlockFrom000,
+    Reason::BlockTo000,
+    Reason::BlockPast999(Field::C, Past::ByOne),
+    Reason::BlockPast999(Field::C, Past::Far),
+    Reason::BlockPast999(Field::B, Past::Far),
+];
+
+/// What block moves come to, with every overlap of short ones. The ends of the drum are far apart on
+/// the list, since probes that share a drum follow each other.
+pub fn of_moves() -> Vec<Event> {
+    let mut moved = vec![Moved::SourceFrom1, Moved::SourceTo999];
+    for words in 1..=SHORT {
+        moved.push(Moved::Short { words, by: 0, up: false });
+        for by in 1..=words + 1 {
+            moved.extend([false, true].map(|up| Moved::Short { words, by, up }));
+        }
+    }
+    moved.extend([Moved::DestinationFrom1, Moved::DestinationTo999, Moved::Long(Lie::Same)]);
+    for up in [false, true] {
+        let lies = [Lie::Over { up }, Lie::Next { up }, Lie::Apart { up }];
+        moved.extend(lies.map(Moved::Long));
+    }
+    moved.extend([Owned::All, Owned::Part, Owned::None].map(Moved::Destination));
+    moved.extend([Moved::MinusZero, Moved::NoNumber]);
+    moved.extend([Moved::OverItself, Moved::OverNext, Moved::FromItself]);
+    moved.extend([false, true].map(|marked| Moved::ShowsA { marked }));
+    moved.extend([Moved::FromMove000, Moved::AsMove000]);
+    let mut events: Vec<Event> = moved.into_iter().map(Event::Moved).collect();
+    for reason in MOVE_FAULTS {
+        events.extend([false, true].map(|unmarked| Event::MoveRefused { reason, unmarked }));
+    }
+    events
+}
+
+pub const TESTS: [Test; 9] = [
+    Test::OwnCell,
+    Test::Plus,
+    Test::Minus,
+    Test::MinusZero,
+    Test::NoNumber,
+    Test::LiveBox,
+    Test::B000,
+    Test::C000,
+    Test::At999,
+];
+
+/// What TR A, TR B and TR C come to, each of them on equal and on unequal.
+pub fn of_tests() -> Vec<Event> {
+    let mut events = Vec::new();
+    for field in FIELDS {
+        for equal in [false, true] {
+            events.extend(TESTS.map(|test| Event::Tested { field, equal, test }));
+        }
+        events.push(Event::Tested { field, equal: true, test: Test::OnlyNamed });
+        for other in FIELDS.into_iter().filter(|&other| other != field) {
+            events.push(Event::Tested { field, equal: false, test: Test::Other(other) });
+        }
     }
     events
 }
@@ -226,7 +302,7 @@ pub fn of_calls() -> Vec<Event> {
 }
 
 /// What is too large for chance to come to.
-pub const LARGE: [Large; 10] = [
+pub const LARGE: [Large; 13] = [
     Large::ReadOverItself,
     Large::ReadOfMany,
     Large::ReadOfHundreds,
@@ -234,6 +310,9 @@ pub const LARGE: [Large; 10] = [
     Large::PchOverItself,
     Large::PchOfHundreds,
     Large::PchWraps,
+    Large::MoveUp,
+    Large::MoveDown,
+    Large::MoveOfAll,
     Large::TracedOutput,
     Large::PunchedOutput,
     Large::CountAbove1000,

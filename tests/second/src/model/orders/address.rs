@@ -1,4 +1,4 @@
-//! The loop orders and the orders that change an address of a stored word.
+//! The loop orders and the orders that change an address of a stored word or compare it.
 
 use super::{used, Effects, View};
 use crate::model::event::Way;
@@ -37,4 +37,15 @@ pub fn change(change: Change, field: Field, order: Order, view: &View) -> Result
     };
     let word = target.with_address(field, new).word();
     Ok(Effects { stores: vec![(order.b, word)], ..Effects::only(view, Way::On) })
+}
+
+/// TR A, B, C: B is the constant, and one address of the word at A is compared with it. The word is
+/// taken as it is stored, whatever it is.
+pub fn compare(field: Field, order: Order, view: &View) -> Result<Effects, Reason> {
+    if order.a == 0 {
+        return Err(Reason::TestOf000);
+    }
+    let tested = Order::of_word(used(view, order, Field::A)?);
+    let equal = tested.address(field) == order.b;
+    Ok(Effects::only(view, if equal { Way::On } else { Way::ToC }))
 }

@@ -2,6 +2,7 @@
 //! effects of the order, or the reason of its refusal. So a refused order is undone by itself.
 
 mod address;
+pub mod block_move;
 mod cards;
 mod mathematical;
 mod tracing;
@@ -50,6 +51,7 @@ pub fn plan(code: Code, order: Order, view: &View) -> Result<Effects, Reason> {
         Code::OfTwo(operation) => mathematical::of_two(operation, order, view),
         Code::OfOne(operation) => mathematical::of_one(operation, order, view),
         Code::Move000 => mathematical::move_000(order, view),
+        Code::Move => block_move::move_block(order, view),
         Code::CondStop => Ok(transfer::cond_stop(order, view)),
         Code::UncStop => Ok(transfer::unc_stop(order, view)),
         Code::TrSgn => Ok(transfer::tr_sgn(view)),
@@ -58,6 +60,7 @@ pub fn plan(code: Code, order: Order, view: &View) -> Result<Effects, Reason> {
         Code::TrSubr => transfer::tr_subr(order, view),
         Code::Loop(named) => Ok(address::loop_orders(named, order, view)),
         Code::Change(change, field) => address::change(change, field, order, view),
+        Code::TrAddress(field) => address::compare(field, order, view),
         Code::Pch => cards::pch(order, view),
         Code::Read => cards::read(order, view),
         Code::StartTr => Ok(tracing::start_tr(view)),

@@ -25,7 +25,7 @@ fn lines_of_10() {
     assert_eq!(number_of_run(|job| job.marks[999] = 2), 10);
     assert_eq!(number_of_run(|job| job.cells[101] = 20_000_000_000), 10);
     assert_eq!(number_of_run(|job| job.cells[102] = 20_000_000_000), 2);
-    assert_eq!(number_of_run(|job| job.cells[101] = 19_999_999_999), 23);
+    assert_eq!(number_of_run(|job| job.cells[101] = 19_999_999_999), 20);
 }
 
 #[test]

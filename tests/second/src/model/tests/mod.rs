@@ -1,8 +1,10 @@
 //! Worked sessions on the model.
 
+mod compare;
 mod entry;
 mod loss;
 mod making;
+mod moves;
 mod orders;
 mod paper;
 mod tracing;

@@ -3,7 +3,7 @@
 use super::Job;
 
 /// Number and count of a run of one order at 101.
-fn one(job: &mut Job) -> (u64, u64) {
+pub fn one(job: &mut Job) -> (u64, u64) {
     let before = (job.cells.clone(), job.marks.clone(), job.state);
     let answer = job.refused(1);
     if answer.0 >= 10 {
@@ -33,7 +33,8 @@ fn the_sum_makes_the_code() {
     let mut job = Job::new().with(101, &["-0000000000"]).with_counts([1, 500, 400]);
     assert_eq!(one(&mut job), (2, 1));
     assert_eq!(job.at(), (400, [1, 500, 401]));
-    let mut job = Job::new().with(101, &["-9000200300"]).with_counts([1, 0, 0]);
+    // -0 400 is READ, and with a count of 1 CONS, which is not built.
+    let mut job = Job::new().with(101, &["-0400200300"]).with_counts([1, 0, 0]);
     assert_eq!(one(&mut job), (23, 0));
     let mut job = Job::new().with(101, &["-0454000999"]).with_counts([0, 0, 1]);
     assert_eq!(one(&mut job), (20, 0));

@@ -19,7 +19,7 @@ fn words_of_a_and_b() {
     let mut job =
         Job::traced().with(0, &["-0000000000"]).with(101, &["+9000000005", "+9005500600"]);
     let ended = job.run(2);
-    assert_eq!((ended.reason.number(), ended.count, ended.written), (23, 1, 154));
+    assert_eq!((ended.reason.number(), ended.count, ended.written), (21, 1, 154));
     let cards = job.written(ended);
     assert_eq!(&cards[41..52], "+0000000000");
     assert_eq!(&cards[52..63], "-0000000000");
@@ -38,8 +38,12 @@ fn which_refusals_come_before_the_card() {
     let job = |order: &str| Job::traced().with(101, &[order]);
     assert_eq!(refused(Job::traced(), 100), (21, 0, 0));
     assert_eq!(refused(job("-0454000999").with_counts([0, 0, 1]), 0), (20, 0, 0));
+    assert_eq!(refused(job("+0401000000"), 76), (22, 0, 0));
+    assert_eq!(refused(job("+0401000000"), 77), (23, 77, 1));
     assert_eq!(refused(job("+6000000000"), 76), (22, 0, 0));
-    assert_eq!(refused(job("+6000000000"), 77), (23, 77, 1));
+    assert_eq!(refused(job("+6000000000"), 77), (20, 77, 1));
+    assert_eq!(refused(job("+9001000200"), 77), (20, 77, 1));
+    assert_eq!(refused(job("+9001200200"), 77), (21, 77, 1));
     assert_eq!(refused(job("+0204000000"), 77), (20, 77, 1));
     assert_eq!(refused(job("+1200200200"), 77), (21, 77, 1));
 }

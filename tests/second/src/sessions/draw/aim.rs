@@ -1,10 +1,13 @@
 //! Orders that should come to a given event, with the cells and cards that it takes.
 
 use super::block;
+use super::compare;
 use super::draft::Draft;
 use super::loss;
+use super::moves;
 use super::parts::{any_address, before, built, marked, not_built, result_cell, shown_cell};
 use super::parts::{strange_word, unmarked};
+use super::unmoved;
 use crate::chance::Chance;
 use crate::decks::build::any_word;
 use crate::model::event::{Event, Tracing, Way};
@@ -31,6 +34,10 @@ pub struct Aimed {
     pub location: Option<u64>,
     /// How many orders the budget has behind it.
     pub spare: Option<u64>,
+    /// Whether the loop box is to make it, where the aim depends on that.
+    pub modified: Option<bool>,
+    /// The loop box with which the order as stored is to be done once more.
+    pub again: Option<[u64; 3]>,
 }
 
 impl Aimed {
@@ -44,6 +51,8 @@ impl Aimed {
             room: None,
             location: None,
             spare: None,
+            modified: None,
+            again: None,
         }
     }
 }
@@ -59,6 +68,13 @@ pub fn aim(event: Event, draft: &mut Draft, chance: &mut Chance) -> Aimed {
         Event::Lost { loss, operation, .. } => loss::aim(loss, operation, draft, chance),
         Event::StoppedForLoss { .. } | Event::WentOnBehindLoss { .. } => {
             loss::stopping(event, draft, chance)
+        }
+        Event::Moved(moved) => moves::aim(moved, draft, chance),
+        Event::MoveRefused { reason, unmarked } => {
+            unmoved::refused_alone(reason, unmarked, draft, chance)
+        }
+        Event::Tested { field, equal, test } => {
+            compare::aim(field, equal, Some(test), draft, chance)
         }
         Event::Completed { code, way, stopped, tracing, .. } => {
             completed(code, way, stopped, tracing != Tracing::Plain, draft, chance)
@@ -94,6 +110,8 @@ fn completed(
             let b = if chance.one_in(6) { 0 } else { marked(any_word(chance), draft, chance) };
             Aimed::of(built(code, 0, b, result_cell(draft, chance)))
         }
+        Code::Move => moves::any(draft, chance),
+        Code::TrAddress(field) => compare::aim(field, way == Way::On, None, draft, chance),
         Code::CondStop | Code::UncStop => {
             let order = built(code, 0, shown_cell(draft, chance), any_address(chance));
             let switch_on_stop = (code == Code::CondStop).then_some(stopped);
@@ -211,6 +229,8 @@ fn refused(code: Code, reason: Reason, draft: &mut Draft, chance: &mut Chance) -
             let c = unmarked(draft, chance);
             Aimed::of(built(code, 0, any_address(chance), c))
         }
+        (Code::Move, _) => unmoved::refused(reason, draft, chance),
+        (Code::TrAddress(field), _) => compare::refused(field, reason, draft, chance),
         (Code::Pch, _) => block::not_punched(reason, draft, chance),
         (Code::Read, _) => block::read(Some(reason), draft, chance),
         (_, Reason::ChangeOf000) => Aimed::of(built(code, 0, 0, any_address(chance))),

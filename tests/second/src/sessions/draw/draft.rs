@@ -12,6 +12,9 @@ use crate::model::word::Word;
 use crate::sessions::bench::{Bench, Outcome};
 use crate::sessions::message::{Begin, Cells, Marks, Message};
 
+/// A drum and its marks are 9,000 bytes in full, and each pair is 16.
+const FULL: usize = 9_000 / 16;
+
 pub struct Draft {
     /// Cells with a value of their own, and marks that are not 0.
     pub values: BTreeMap<u64, u64>,
@@ -89,7 +92,7 @@ impl Draft {
         cell
     }
 
-    /// Ends the layout. A few drums are sent in full.
+    /// Ends the layout. A few drums are sent in full, and all that take more numbers otherwise.
     pub fn begin(&mut self, state: State, chance: &mut Chance) {
         let within = |map: &BTreeMap<u64, u64>, length: u64| {
             map.range(..length).map(|(&i, &v)| (i, v)).collect()
@@ -98,7 +101,8 @@ impl Draft {
         let mut cells = Cells::Sparse { length: self.cells_length, fill: self.fill, pairs };
         let pairs = within(&self.marks, self.marks_length);
         let mut marks = Marks::Sparse { length: self.marks_length, pairs };
-        if chance.one_in(200) {
+        let many = self.values.len() + self.marks.len() > FULL;
+        if chance.one_in(200) || many {
             (cells, marks) = (Cells::Full(cells.all()), Marks::Full(marks.all()));
         }
         self.send(Message::Begin(Begin { cells, marks, state: state.numbers().to_vec() }));

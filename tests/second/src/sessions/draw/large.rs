@@ -1,5 +1,5 @@
-//! Sessions aimed at what is large: long blocks for READ and PCH, blocks over the order itself, far
-//! places of a deck, long outputs and high counts.
+//! Sessions aimed at what is large: long blocks for READ, PCH and MOVE, blocks over the order itself,
+//! far places of a deck, long outputs and high counts.
 
 use super::block::{filling, punched_length};
 use super::draft::Draft;
@@ -23,6 +23,7 @@ pub fn session(large: Large, chance: &mut Chance) -> Vec<Message> {
         Large::PchOverItself | Large::PchOfHundreds | Large::PchWraps => {
             punching(large, &mut draft, chance)
         }
+        Large::MoveUp | Large::MoveDown | Large::MoveOfAll => moving(large, &mut draft, chance),
         Large::TracedOutput => long_trace(&mut draft, chance),
         Large::PunchedOutput => long_punch(&mut draft, chance),
         Large::CountAbove1000 => long_count(&mut draft, chance),
@@ -131,6 +132,60 @@ fn punching_beyond(first: u64, last: u64, draft: &mut Draft, chance: &mut Chance
         location = draft.free(1, chance);
     }
     draft.put_order(location, built(Code::Pch, 0, first, hole));
+    Some(location)
+}
+
+/// A long block onto a part of itself, or all cells onto themselves. Of a block of one word more, which
+/// is tried before, the last cell is not marked.
+fn moving(large: Large, draft: &mut Draft, chance: &mut Chance) {
+    let (words, b, c) = loop {
+        let words = match large {
+            Large::MoveOfAll => 999,
+            _ => chance.pick_or(&[256, 998], 256, 998),
+        };
+        let last = 1_000 - words;
+        let [b, c] = [0; 2].map(|_| chance.pick_or(&[1, last], 1, last));
+        let lies = match large {
+            Large::MoveUp => c > b,
+            Large::MoveDown => c < b,
+            _ => true,
+        };
+        if lies && b.abs_diff(c) < words {
+            break (words, b, c);
+        }
+    };
+    for cell in b..b + words {
+        draft.put(cell, any_word(chance));
+    }
+    let location = chance.between(1, 999);
+    draft.put_order(location, built(Code::Move, words, b, c));
+    let beyond = moving_beyond(words, b, c, draft, chance);
+    let tracing = chance.below(2);
+    let state = State { location, reader: 7, mode: tracing, tracing, ..State::default() };
+    draft.begin(state, chance);
+    draft.deck("T001000");
+    if let Some(location) = beyond {
+        draft.set_state(State { location, ..state });
+        draft.run(TRACE_CARD, 1, 0);
+        draft.set_state(state);
+    }
+    draft.run(2 * TRACE_CARD, 2, 0);
+}
+
+/// The location of a move of one word more; none where cells are scarce.
+fn moving_beyond(
+    words: u64,
+    b: u64,
+    c: u64,
+    draft: &mut Draft,
+    chance: &mut Chance,
+) -> Option<u64> {
+    let hole = b + words;
+    if words > 900 || hole.max(c + words) > 999 || !draft.take(hole, 1) {
+        return None;
+    }
+    let location = draft.free(1, chance);
+    draft.put_order(location, built(Code::Move, words + 1, b, c));
     Some(location)
 }
 

@@ -51,13 +51,6 @@ pub fn stopping(event: Event, draft: &mut Draft, chance: &mut Chance) -> Aimed {
     Aimed { spare, ..aim(loss, operation, draft, chance) }
 }
 
-/// Keeps the last two cells for an order that is to lie there.
-pub fn keep_999(events: &[Event], draft: &mut Draft) {
-    if events.iter().any(|event| matches!(event, Event::Lost { loss: Loss::At999, .. })) {
-        draft.take(998, 2);
-    }
-}
-
 /// A cell for the order, behind one that is free and before an order that does nothing; or 999.
 fn place(loss: Loss, draft: &mut Draft, chance: &mut Chance) -> u64 {
     if loss == Loss::At999 {

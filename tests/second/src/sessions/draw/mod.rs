@@ -3,12 +3,15 @@
 mod aim;
 mod block;
 pub mod codes;
+mod compare;
 mod draft;
 mod early;
+mod ends;
 mod hostile;
 mod large;
 mod layout;
 mod loss;
+mod moves;
 mod named;
 mod parts;
 mod probe;
@@ -16,6 +19,7 @@ mod program;
 mod soup;
 mod steer;
 mod text;
+mod unmoved;
 pub mod wrong;
 
 use super::message::Message;
@@ -32,7 +36,7 @@ const HOSTILE: u64 = 3;
 const PLANNED: u64 = 4;
 
 /// One session of so many is a large one.
-const LARGE: u64 = 100;
+const LARGE: u64 = 60;
 
 /// The session of an index, ended but not yet with its twin.
 pub fn session(seed: u64, index: u64) -> Vec<Message> {

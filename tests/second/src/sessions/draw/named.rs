@@ -1,4 +1,5 @@
-//! The sessions that begin every stream: the paper's own, its blunders, and the largest of all.
+//! The sessions that begin every stream: the paper's own, its blunders, the largest of all, and what
+//! the newsletter shows of block moves and address tests.
 
 use super::draft::Draft;
 use crate::chance::Chance;
@@ -27,6 +28,8 @@ pub fn session(index: u64, chance: &mut Chance) -> Option<Vec<Message>> {
         7 => bad_punch_in_traced_mode(&mut draft, chance),
         8 => sellers_table(&mut draft, chance),
         9 => empty_run(&mut draft, chance),
+        10 => newsletters_move_and_test(&mut draft, chance),
+        11 => newsletters_summation(&mut draft, chance),
         _ => return None,
     }
     Some(draft.finish())
@@ -158,4 +161,39 @@ fn empty_run(draft: &mut Draft, chance: &mut Chance) {
         draft.run(0, 0, 0);
         draft.run(0, 1, 0);
     }
+}
+
+/// Five words two cells up, then down again; and an address that is another, and then the one asked for.
+fn newsletters_move_and_test(draft: &mut Draft, chance: &mut Chance) {
+    put(draft, 701, &["+1000000050", "-2000000050", "-0000000000", "+0000000004", "+5000000050"]);
+    put(draft, 101, &["+9005701703", "+9005703701", "+9005701996", "+9005996701"]);
+    put(draft, 300, &["+6750325200", "+0000301000"]);
+    put(draft, 200, &["+0600750005", "+0203000300"]);
+    put(draft, 750, &["+1320400000"]);
+    draft.begin(State { location: 101, reader: 7, ..State::default() }, chance);
+    draft.deck("T101000");
+    draft.run(0, 3, 0);
+    for location in [104, 300] {
+        for tracing in [1, 0] {
+            let (mode, reader) = (tracing, 7);
+            draft.set_state(State { location, reader, mode, tracing, ..State::default() });
+            draft.run(400, 9, 0);
+        }
+    }
+}
+
+/// The sum of twenty products, with the addresses of an order changed and compared.
+fn newsletters_summation(draft: &mut Draft, chance: &mut Chance) {
+    put(draft, 101, &["+0500103801", "+0050103901", "+3000000000", "+1000700700"]);
+    put(draft, 105, &["+0600103001", "+0060103001", "+6103821103", "+0000700000"]);
+    put(draft, 700, &["+0000000000"]);
+    for cell in 1..=20 {
+        draft.put(800 + cell, Word::plus(1_000_000_050 + cell * 1_000_000));
+        draft.put(900 + cell, Word { minus: cell % 3 == 0, digits: 7_000_000_050 + cell * 77_700 });
+    }
+    draft.begin(State { location: 101, reader: 7, ..State::default() }, chance);
+    draft.deck("T101000");
+    draft.run(0, 999, 0);
+    draft.set_state(State { location: 101, reader: 7, mode: 1, tracing: 1, ..State::default() });
+    draft.run(8_000, 999, 0);
 }

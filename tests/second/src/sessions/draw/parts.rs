@@ -24,11 +24,16 @@ pub fn any_address(chance: &mut Chance) -> u64 {
 /// A cell that is not marked, holding something that looks good half of the time.
 pub fn unmarked(draft: &mut Draft, chance: &mut Chance) -> u64 {
     let cell = draft.free(1, chance);
+    tempt(cell, draft, chance);
+    cell
+}
+
+/// Half of the time lets an unmarked cell hold something that looks good.
+pub fn tempt(cell: u64, draft: &mut Draft, chance: &mut Chance) {
     if chance.percent(50) {
         let tempting = chance.pick(&[454_000_000, 1_000_000_050, 203_000_001, 0]);
         draft.values.insert(cell, tempting);
     }
-    cell
 }
 
 pub fn marked(word: Word, draft: &mut Draft, chance: &mut Chance) -> u64 {
@@ -70,27 +75,20 @@ pub fn before(done: Order, counts: [u64; 3]) -> Option<Order> {
     (counts != [0; 3]).then_some(Order { minus: true, o1: done.o1, a, b, c })
 }
 
-/// Codes that the paper names as not built, codes next to built ones, any other.
+/// Codes that the paper names as not built, codes next to built ones, any other; O1 is always 0.
 pub fn not_built(chance: &mut Chance) -> Order {
     loop {
-        let (o1, a) = match chance.below(6) {
-            0 => (
-                0,
-                chance
-                    .pick(&[401, 205, 453, 455, 301, 302, 303, 304, 305, 351, 352, 353, 354, 355]),
-            ),
-            1 => (
-                0,
-                chance.pick(&[
-                    2, 3, 4, 8, 9, 12, 20, 51, 55, 61, 102, 112, 120, 199, 206, 299, 349, 501, 550,
-                    800,
-                ]),
-            ),
-            2 => (chance.between(6, 8), any_address(chance)),
-            3 => (9, chance.between(1, 999)),
-            _ => (0, chance.below(1_000)),
+        let a = match chance.below(4) {
+            0 => {
+                chance.pick(&[401, 205, 453, 455, 301, 302, 303, 304, 305, 351, 352, 353, 354, 355])
+            }
+            1 => chance.pick(&[
+                2, 3, 4, 8, 9, 12, 20, 51, 55, 61, 102, 112, 120, 199, 206, 299, 349, 501, 550, 800,
+            ]),
+            _ => chance.below(1_000),
         };
-        let order = Order { minus: false, o1, a, b: any_address(chance), c: any_address(chance) };
+        let (b, c) = (any_address(chance), any_address(chance));
+        let order = Order { minus: false, o1: 0, a, b, c };
         if code(order).is_none() {
             return order;
         }

@@ -3,11 +3,11 @@
 use super::aim::{aim, Aimed};
 use super::draft::Draft;
 use super::early::{refuse_early, sum_above_999};
-use super::loss;
+use super::ends;
 use super::parts::{before, built};
 use crate::chance::Chance;
 use crate::decks::build::Cards;
-use crate::model::event::{Event, Tracing};
+use crate::model::event::{Event, Moved, Tracing};
 use crate::model::order::{Code, Order};
 use crate::model::state::State;
 use crate::model::stop::Reason;
@@ -31,12 +31,14 @@ pub struct Probe {
     pub switch_on_stop: bool,
     /// How many orders the budget has behind these.
     pub spare: u64,
+    /// The loop box for a second run from the same location.
+    pub again: Option<[u64; 3]>,
 }
 
 /// A session with one probe for each of the events.
 pub fn session(events: &[Event], chance: &mut Chance) -> Vec<Message> {
     let draft = &mut Draft::new(chance);
-    loss::keep_999(events, draft);
+    ends::keep(events, draft);
     let probes: Vec<Probe> = events.iter().map(|&event| laid_out(event, draft, chance)).collect();
     draft.begin(State::default(), chance);
     let common = Cards::any(chance).bytes();
@@ -75,6 +77,10 @@ fn play(probe: &Probe, draft: &mut Draft, chance: &mut Chance) {
         let room = chance.pick(&[probe.room, 77, 154, 900]);
         draft.run(room, chance.between(1, 3), stop);
     }
+    if let Some(counts) = probe.again {
+        draft.set_state(State { location: probe.location, counts, ..draft.state() });
+        draft.run(probe.room, probe.orders, stop);
+    }
 }
 
 fn laid_out(event: Event, draft: &mut Draft, chance: &mut Chance) -> Probe {
@@ -86,6 +92,10 @@ fn laid_out(event: Event, draft: &mut Draft, chance: &mut Chance) -> Probe {
         Event::StoppedForLoss { traced, .. } | Event::WentOnBehindLoss { traced } => {
             let tracing = if traced { chance.pick(&TRACINGS[1..]) } else { Tracing::Plain };
             (tracing, chance.one_in(4))
+        }
+        Event::Moved(Moved::ShowsA { .. }) => (Tracing::On, chance.one_in(4)),
+        Event::Moved(_) | Event::MoveRefused { .. } | Event::Tested { .. } => {
+            (chance.pick(&TRACINGS), chance.one_in(4))
         }
         Event::SumRefused { .. } => (chance.pick(&TRACINGS), false),
         _ => panic!("a probe is aimed at what an order comes to"),
@@ -119,7 +129,7 @@ fn placed(
         let from = draft.free_word(word, chance);
         draft.put_order(location, built(Code::Move000, 0, from, 0));
     }
-    let (order, counts) = stored(&aimed, modified, chance);
+    let (order, counts) = stored(&aimed, aimed.modified.unwrap_or(modified), chance);
     draft.put_order(location + leading, order);
     let cards = if tracing == Tracing::On { TRACE_CARD * (leading + 1) } else { 0 };
     let slack = chance.pick(&[0, 0, 1, 76, 200]);
@@ -132,6 +142,7 @@ fn placed(
         deck: aimed.deck,
         switch_on_stop: aimed.switch_on_stop.unwrap_or_else(|| chance.one_in(3)),
         spare: aimed.spare.unwrap_or_else(|| chance.pick(&[0, 0, 1, 3])),
+        again: aimed.again,
     }
 }
 

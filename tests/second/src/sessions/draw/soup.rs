@@ -7,6 +7,7 @@ use super::steer::steer;
 use crate::chance::Chance;
 use crate::model::order::{Change, Code, Order, BUILT};
 use crate::model::state::State;
+use crate::model::stop::Field;
 use crate::model::word::Word;
 use crate::sessions::message::Message;
 
@@ -20,7 +21,7 @@ pub fn session(chance: &mut Chance) -> Vec<Message> {
     let most = chance.pick(&[0, 0, 1, 3]);
     let counts = [0; 3].map(|_| chance.below(most + 1));
     for cell in layout.program..layout.program + length {
-        let order = order(&layout, counts, chance);
+        let order = order(&layout, counts, &draft, chance);
         draft.put(cell, order);
     }
     if chance.percent(80) {
@@ -40,11 +41,11 @@ pub fn session(chance: &mut Chance) -> Vec<Message> {
 }
 
 /// An order as stored: now and then a minus order, often one that the box makes into a good one.
-fn order(layout: &Layout, counts: [u64; 3], chance: &mut Chance) -> Word {
+fn order(layout: &Layout, counts: [u64; 3], draft: &Draft, chance: &mut Chance) -> Word {
     if chance.one_in(60) {
         return Word { minus: chance.percent(50), digits: chance.below(10_000_000_000) };
     }
-    let done = done(layout, chance);
+    let done = done(layout, draft, chance);
     if chance.percent(75) {
         return done.word();
     }
@@ -54,9 +55,11 @@ fn order(layout: &Layout, counts: [u64; 3], chance: &mut Chance) -> Word {
         .word()
 }
 
-fn done(layout: &Layout, chance: &mut Chance) -> Order {
+fn done(layout: &Layout, draft: &Draft, chance: &mut Chance) -> Order {
     let code = drawn_code(chance);
     let (b, c) = match code {
+        Code::Move => return block_move(layout, chance),
+        Code::TrAddress(field) => return address_test(field, layout, draft, chance),
         Code::OfTwo(_) | Code::OfOne(_) => (layout.operand(chance), layout.result(chance)),
         Code::Move000 => {
             let from =
@@ -85,6 +88,31 @@ fn done(layout: &Layout, chance: &mut Chance) -> Order {
         _ => (any_address(chance), any_address(chance)),
     };
     built(code, layout.operand(chance), b, c)
+}
+
+/// A few words, most often numbers, and most often to where numbers or no words are.
+fn block_move(layout: &Layout, chance: &mut Chance) -> Order {
+    let b = match chance.below(8) {
+        0 => layout.order(chance),
+        1 => layout.stranger(chance),
+        2 => layout.operand(chance),
+        _ => layout.number(chance),
+    };
+    let c = if chance.percent(50) { layout.number(chance) } else { layout.result(chance) };
+    let numbers = (layout.numbers + NUMBERS).saturating_sub(b);
+    let words = if chance.one_in(8) { 7 } else { numbers.clamp(1, 7) };
+    built(Code::Move, chance.between(1, words), b, c)
+}
+
+/// The constant is often the address of the word that lies there before the program runs.
+fn address_test(field: Field, layout: &Layout, draft: &Draft, chance: &mut Chance) -> Order {
+    let a = if chance.percent(60) { layout.order(chance) } else { layout.operand(chance) };
+    let there = draft.values.get(&a).and_then(|&number| Word::of_cell(number));
+    let b = match there {
+        Some(word) if chance.percent(60) => Order::of_word(word).address(field),
+        _ => any_address(chance),
+    };
+    built(Code::TrAddress(field), a, b, layout.target(chance))
 }
 
 /// Mathematical orders as often as all others together.

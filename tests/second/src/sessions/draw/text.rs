@@ -1,6 +1,6 @@
 //! The text of a program, put together from parts that each do something of their own.
 
-use super::layout::{Layout, INBOX, NUMBERS};
+use super::layout::{Layout, HOLES, INBOX, NUMBERS};
 use super::parts::built;
 use crate::chance::Chance;
 use crate::model::operation::{OfOne, OfTwo};
@@ -26,7 +26,7 @@ impl Text {
     }
 
     fn part(&mut self, layout: &Layout, chance: &mut Chance) {
-        match chance.below(11) {
+        match chance.below(14) {
             0 => self.loop_over_numbers(layout, chance),
             1 => self.loop_that_copies(layout, chance),
             2 => self.loop_that_changes_an_order(layout, chance),
@@ -37,6 +37,9 @@ impl Text {
             7 => self.trace_a_little(chance),
             8 => self.stop_and_go(layout, chance),
             9 => self.add_and_take_away(layout, chance),
+            10 => self.move_a_block(layout, chance),
+            11 => self.move_more_and_more(layout, chance),
+            12 => self.loop_until_an_address(layout, chance),
             _ => self.straight(layout, chance),
         }
     }
@@ -166,6 +169,43 @@ impl Text {
         let (a, b, sum) = (layout.number(chance), layout.number(chance), layout.hole(chance));
         self.push(Code::OfTwo(OfTwo::Add), a, b, sum);
         self.push(Code::OfTwo(OfTwo::Sub), sum, chance.pick(&[a, b]), layout.result(chance));
+    }
+
+    /// Numbers to cells that are not marked, to the inbox, or up or down among themselves.
+    fn move_a_block(&mut self, layout: &Layout, chance: &mut Chance) {
+        let words = chance.between(1, HOLES);
+        let any_from = |chance: &mut Chance| layout.numbers + chance.below(NUMBERS - words + 1);
+        let from = any_from(chance);
+        let to = match chance.below(4) {
+            0 => layout.holes,
+            1 => layout.inbox,
+            _ => any_from(chance),
+        };
+        self.push(Code::Move, words, from, to);
+    }
+
+    /// A minus order that the loop box makes into moves of one word, two words, and so on; the first
+    /// time it is MOVE 000.
+    fn move_more_and_more(&mut self, layout: &Layout, chance: &mut Chance) {
+        let (from, to) = (layout.numbers, chance.pick(&[layout.holes, layout.numbers + 2]));
+        let again = self.here();
+        self.push_minus(Code::Move000, 0, from, to);
+        self.push(Code::Loop([true, false, false]), 0, chance.between(2, HOLES), again);
+    }
+
+    /// An order steps through cells until one of its own addresses says that it is done.
+    fn loop_until_an_address(&mut self, layout: &Layout, chance: &mut Chance) {
+        let changed = self.here() + 1;
+        let (field, start) = chance.pick(&[
+            (Field::A, layout.numbers),
+            (Field::B, layout.numbers + 1),
+            (Field::C, layout.inbox),
+        ]);
+        let count = chance.between(1, INBOX);
+        self.push(Code::Change(Change::Set, field), 0, changed, start);
+        self.push(Code::OfTwo(OfTwo::Add), layout.numbers, layout.numbers + 1, layout.inbox);
+        self.push(Code::Change(Change::Add, field), 0, changed, 1);
+        self.push(Code::TrAddress(field), changed, start + count, changed);
     }
 
     fn stop_and_go(&mut self, layout: &Layout, chance: &mut Chance) {
