@@ -4,7 +4,7 @@
 # listings: each deck is what the keypunch makes of the listing beside it, and each kept output is on the list.
 listings() {
     count=0 wrong=0
-    for listing in examples/*.txt tests/sessions/*.txt; do
+    for listing in examples/*.txt tests/sessions/*.txt bench/decks/*.txt; do
         count=$((count + 1))
         "${L1_KEYPUNCH:-examples/keypunch}" "$listing" | cmp - "${listing%.txt}.deck" || wrong=$((wrong + 1))
     done
