@@ -1,5 +1,5 @@
 -- One order from its code on, said of the machine that the lent runs show. Assumes nothing.
-use Prim.Native.Nat.{ℕ, _+_, _-_, _≤_}
+use Prim.Native.Nat.{ℕ, _+_, _≤_}
 use mathlib.Core.Path.{_≡_, refl, sym, ap, subst, _∙_}
 use mathlib.Core.Logic.{_⊎_, inl, inr}
 use mathlib.Core.List.{List}
@@ -33,6 +33,7 @@ use Rattle.rules.specs.declared.Refusal.the-variants.{BadAddress, NotBuilt, Not
 use Rattle.rules.specs.declared.Outcome.{Outcome}
 use Rattle.rules.specs.declared.Outcome.the-variants.{Undone}
 use Rattle.rules.proofs.Tests.{both-first, both-second}
+use Rattle.rules.proofs.BlockMoves.{block-ends}
 use Rattle.codes.specs.Keys.{keyIn, slotOf}
 use Rattle.codes.specs.Slots.{Indexed, builtIn}
 use Rattle.codes.specs.Suits.{Suits, SuitsBuilt, asksNumbers, operandsOf}
@@ -59,17 +60,10 @@ block-fits : (k : Class) (v : List Cell) (a b c : ℕ) → (k ≡ BlockIn) ⊎ (
 block-fits k v a b c (inl f) e = in-block b c (unless-passes (blockFits b c) BadAddress _ (rw f at e))
 block-fits k v a b c (inr f) e = in-block b c (unless-passes (blockFits b c) BadAddress _ (rw f at e))
 
--- a block that begins behind 000 and ends at 999 at the latest
-ends : (b n : ℕ) → blockLies b n ≡ true → b + n ≤ 1000
-ends b n e =
-    let f : 1 ≤ b = leb-true 1 b (both-first (leb 1 b) (leb (b + n - 1) 999) e) in
-    let g : b + n - 1 ≤ 999 = leb-true (b + n - 1) 999 (both-second (leb 1 b) (leb (b + n - 1) 999) e) in
-    omega arith
-
 blocks-lie : (k : Class) (v : List Cell) (a b c : ℕ) → k ≡ BlockMoved → placed k v a b c ≡ Passes → (b + a ≤ 1000) × (c + a ≤ 1000)
 blocks-lie k v a b c f e =
     let t = unless-passes (both (blockLies b a) (blockLies c a)) BadAddress _ (rw f at e) in
-    (ends b a (both-first (blockLies b a) (blockLies c a) t), ends c a (both-second (blockLies b a) (blockLies c a) t))
+    (block-ends b a (both-first (blockLies b a) (blockLies c a) t), block-ends c a (both-second (blockLies b a) (blockLies c a) t))
 
 allowed-by : (o : Operation) (k : Class) (v : List Cell) (a b c : ℕ) → Suits o k → placed k v a b c ≡ Passes → Allowed o a b c
 allowed-by (Reckon r) k v a b c s e = tt

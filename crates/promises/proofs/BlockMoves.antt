@@ -7,7 +7,7 @@ use mathlib.Core.Bool.{Bool, true, false}
 use native.Mathlib.Omega.{arith}
 use lib.Dec.{eqb, leb, ltb}
 use lib.ListN.{length, getD}
-use borrow.Author.Tests.{le-leb, leb-true, lt-ltb, eq-eqb, ne-eqb}
+use borrow.Author.Tests.{le-leb, lt-ltb, eq-eqb, ne-eqb}
 use Rattle.rules.specs.Words.{pick, both, firstDigit, aIn, bIn, cIn, addressIn}
 use Rattle.rules.specs.Drum.{cellAt, wordAt, isOwned, shown}
 use Rattle.rules.specs.Codes.{codes, lookup, codeIn, pchCode, isBlockMove, andThen, unless, blockLies, ownedAt, ownedFrom, checked}
@@ -27,8 +27,8 @@ use Rattle.rules.specs.declared.Class.{Class}
 use Rattle.rules.specs.declared.Class.the-variants.{BlockMoved, Compared}
 use Rattle.rules.specs.declared.Operation.{Operation}
 use Rattle.rules.specs.declared.Operation.the-variants.{MoveBlock, Compare}
-use Rattle.rules.proofs.Tests.{both-first, both-second, false-true}
-use Rattle.rules.proofs.BlockMoves.{stored-long, moved-there, moved-elsewhere, owned-each, owned-all}
+use Rattle.rules.proofs.Tests.{false-true}
+use Rattle.rules.proofs.BlockMoves.{stored-long, moved-there, moved-elsewhere, block-begins, block-ends, owned-each, owned-all}
 use Rattle.promises.specs.BlockMoves.{Next, told, Lies, Moved, MovesBlock, BlockMoves, BlockMoveTold, digitOf, TestsAddress, AddressTests}
 
 -- ---- an order that comes next is obeyed, once it is told
@@ -74,10 +74,7 @@ lies-is : (b n : ℕ) → Lies b n → blockLies b n ≡ true
 lies-is b n h = rw (le-leb 1 b (h .begins)) (le-leb (b + n - 1) 999 (omega (arith, h .begins, h .ends)))
 
 is-lies : (b n : ℕ) → blockLies b n ≡ true → Lies b n
-is-lies b n e =
-    let f : 1 ≤ b = leb-true 1 b (both-first (leb 1 b) (leb (b + n - 1) 999) e) in
-    let g : b + n - 1 ≤ 999 = leb-true (b + n - 1) 999 (both-second (leb 1 b) (leb (b + n - 1) 999) e) in
-    record { begins = f; ends = omega arith }
+is-lies b n e = record { begins = block-begins b n e; ends = block-ends b n e }
 
 module _ (i : Inputs) (u : Machine) (n b c : ℕ) where
   abbrev judgedMove : Answer
@@ -145,11 +142,17 @@ block-move-told m order w e l = simp (lt-ltb 0 (firstDigit w) (omega (arith, e))
 
 -- ---- address tests
 
+test-digit : (k : Address) → (1 ≤ digitOf k) × (digitOf k ≤ 8)
+test-digit OfA = (omega arith, omega arith)
+test-digit OfB = (omega arith, omega arith)
+test-digit OfC = (omega arith, omega arith)
+
 test-code : (w : ℕ) (k : Address) → firstDigit w ≡ digitOf k → codeIn w ≡ 1000 * digitOf k
 unfolding codeIn
-test-code w OfA e = simp (ne-eqb (firstDigit w) 0 (λ z. omega (arith, e, z)), ne-eqb (firstDigit w) 9 (λ z. omega (arith, e, z))) (ap (λ (n : ℕ). 1000 * n) e)
-test-code w OfB e = simp (ne-eqb (firstDigit w) 0 (λ z. omega (arith, e, z)), ne-eqb (firstDigit w) 9 (λ z. omega (arith, e, z))) (ap (λ (n : ℕ). 1000 * n) e)
-test-code w OfC e = simp (ne-eqb (firstDigit w) 0 (λ z. omega (arith, e, z)), ne-eqb (firstDigit w) 9 (λ z. omega (arith, e, z))) (ap (λ (n : ℕ). 1000 * n) e)
+test-code w k e =
+    let d = test-digit k in
+    simp (ne-eqb (firstDigit w) 0 (λ z. omega (arith, e, z, d .0)), ne-eqb (firstDigit w) 9 (λ z. omega (arith, e, z, d .1)))
+    (ap (λ (n : ℕ). 1000 * n) e)
 
 test-row : (k : Address) → lookup (1000 * digitOf k) codes ≡ As (Compare k) Compared
 unfolding lookup codes
@@ -158,9 +161,7 @@ test-row OfB = refl
 test-row OfC = refl
 
 not-pch : (k : Address) → 1000 * digitOf k ≡ pchCode → ⊥
-not-pch OfA e = omega (arith, e)
-not-pch OfB e = omega (arith, e)
-not-pch OfC e = omega (arith, e)
+not-pch k e = omega (arith, e, test-digit k .0)
 
 module _ (i : Inputs) (u : Machine) (k : Address) (a b c : ℕ) where
   abbrev judgedTest : Answer

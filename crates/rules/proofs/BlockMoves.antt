@@ -1,18 +1,18 @@
 -- Words stored in cells upward, and so a block moved: what each cell then is, marks that stay, and that cells which hold words go on to. And
 -- one word more, at either end, as a loop moves a block. Assumes nothing.
-use Prim.Native.Nat.{ℕ, zero, suc, _+_, _≤_, _<_}
+use Prim.Native.Nat.{ℕ, zero, suc, _+_, _-_, _≤_, _<_}
 use mathlib.Core.Path.{_≡_, refl, sym, ap, _∙_}
 use mathlib.Core.List.{List, [], _∷_, _++_}
 use mathlib.Core.Bool.{Bool, true, false}
 use native.Mathlib.Nat.{le-of-suc-le-suc}
 use native.Mathlib.Numerals.{add-one}
 use native.Mathlib.Omega.{arith}
-use lib.Dec.{eqb}
+use lib.Dec.{eqb, leb}
 use lib.ListN.{length, getD, length-set}
 use lib.Seq.{getD-set-same, getD-set-other, set-comm}
-use borrow.Author.Tests.{eqb-true, eqb-false}
+use borrow.Author.Tests.{eqb-true, eqb-false, leb-true}
 use Rattle.rules.specs.Drum.{cellAt, wordAt, store}
-use Rattle.rules.specs.Codes.{ownedAt, ownedFrom}
+use Rattle.rules.specs.Codes.{blockLies, ownedAt, ownedFrom}
 use Rattle.rules.specs.Orders.{wordsFrom, storedFrom, cellsMoved}
 use Rattle.rules.specs.declared.Cell.{Cell}
 use Rattle.rules.specs.declared.Cell.the-variants.{Foreign, Owned}
@@ -119,7 +119,15 @@ pub moved-there : (v : List Cell) (n b c k : ℕ) → c + n ≤ length v → k <
 moved-there v n b c k l f =
     stored-there c (wordsFrom v b n) v k (omega (arith, words-long v b n)) (omega (arith, words-long v b n)) ∙ ap Owned (word-of v b n k f)
 
--- ---- the marks of a block
+-- ---- where a block may lie, and its marks
+
+pub block-begins : (b n : ℕ) → blockLies b n ≡ true → 1 ≤ b
+block-begins b n e = leb-true 1 b (both-first (leb 1 b) (leb (b + n - 1) 999) e)
+
+pub block-ends : (b n : ℕ) → blockLies b n ≡ true → b + n ≤ 1000
+block-ends b n e =
+    let g : b + n - 1 ≤ 999 = leb-true (b + n - 1) 999 (both-second (leb 1 b) (leb (b + n - 1) 999) e) in
+    omega (arith, block-begins b n e)
 
 pub owned-each : (v : List Cell) (b n k : ℕ) → ownedFrom v b n ≡ true → k < n → ownedAt v (b + k) ≡ true
 unfolding ownedFrom
