@@ -118,7 +118,8 @@ struct l1_ended {
  * Why the order at the location was refused:
  *   20: the location is 0 or 1000; of a minus order, an address with its count of the loop box is above 999; in PCH and READ B is 000 or
  *       above C; in SET, ADD and SUB of an address B is 000; in TR SUBR C is 000; in MOVE with A from 001 one of the two blocks of A
- *       cells, from B and from C, begins at 000 or goes past 999; in TR A, TR B and TR C A is 000;
+ *       cells, from B and from C, begins at 000 or goes past 999; in TR A, TR B and TR C A is 000; behind 21, in ADD and SUB of an
+ *       address, the sum is more than the ten digits of the word at B hold, or less than zero;
  *   21: the order's cell is not marked, or a cell whose word it uses: of MOVE with A from 001 one of the block from B, of TR A, TR B
  *       and TR C that at A. A cell that is only stored in, gone to or shown need not be marked;
  *   22: the trace card, or the cards of PCH, do not fit the room that is left; 23: the code is not built;

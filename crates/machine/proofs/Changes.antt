@@ -1,35 +1,50 @@
--- One address of a word taken out and another put in: neither goes past the word's ten digits. By the three addresses. Assumes nothing.
+-- One address of a word taken out, C shifted to where it stands, and the sum by its digits: none goes past the word, and each is what the rules
+-- make of it. Assumes nothing.
 use Prim.Native.Nat.{ℕ, _+_, _-_, _*_, _≤_, _<_}
-use mathlib.Core.Path.{_≡_}
+use mathlib.Core.Path.{_≡_, ap}
 use native.Mathlib.Omega.{arith}
-use Rattle.rules.specs.Words.{addressIn, worthOf}
+use borrow.Author.Tests.{le-leb, lt-leb}
+use Rattle.rules.specs.Words.{digitsIn, addressIn, worthOf, withDigits}
+use Rattle.rules.specs.Orders.{shifted, raisedBy, loweredBy}
 use Rattle.rules.specs.declared.Address.{Address}
 use Rattle.rules.specs.declared.Address.the-variants.{OfA, OfB, OfC}
-use Rattle.rules.specs.Orders.{newAddress}
-use Rattle.rules.specs.declared.Changing.{Changing}
-use Rattle.rules.specs.declared.Changing.the-variants.{SetTo, AddTo, SubFrom}
+use Rattle.rules.specs.declared.Reckoned.the-variants.{Result, Refused}
+use Rattle.rules.specs.declared.Refusal.the-variants.{BadAddress}
 
-pub address-small : (x : Address) (w : ℕ) → addressIn x w < 1000
-address-small OfA w = omega arith
-address-small OfB w = omega arith
-address-small OfC w = omega arith
+-- ---- by the address
 
-pub new-small : (k : Changing) (x c : ℕ) → c < 1000 → newAddress k x c < 1000
-new-small SetTo x c l = l
-new-small AddTo x c l = omega arith
-new-small SubFrom x c l = omega arith
+shifted-in : (x : Address) (c : ℕ) → c < 1000 → shifted x c ≤ 999000000
+shifted-in OfA c l = omega arith
+shifted-in OfB c l = omega arith
+shifted-in OfC c l = omega arith
 
--- the address of worth `worth` was `old`, and becomes `new`
-pub record Swapped (w old new worth : ℕ) : Type 0 where
-  pub less : old * worth ≤ w
-  pub small : old * worth ≤ 999000000
-  pub more : new * worth ≤ 999000000
-  pub whole : w - old * worth + new * worth ≤ 19999999999
+pub shifted-small : (x : Address) {worth : ℕ} (c : ℕ) → worth ≡ worthOf x → c < 1000 → c * worth ≤ 999000000
+shifted-small x c e l = rw e (shifted-in x c l)
 
-swapped-in : (x : Address) (w new : ℕ) → w ≤ 19999999999 → new < 1000 → Swapped w (addressIn x w) new (worthOf x)
-swapped-in OfA w new l k = record { less = omega arith; small = omega arith; more = omega arith; whole = omega arith }
-swapped-in OfB w new l k = record { less = omega arith; small = omega arith; more = omega arith; whole = omega arith }
-swapped-in OfC w new l k = record { less = omega arith; small = omega arith; more = omega arith; whole = omega arith }
+taken-in : (x : Address) (w : ℕ) → (addressIn x w * worthOf x ≤ w) × (addressIn x w * worthOf x ≤ 999000000)
+taken-in OfA w = (omega arith, omega arith)
+taken-in OfB w = (omega arith, omega arith)
+taken-in OfC w = (omega arith, omega arith)
 
-pub swapped : (x : Address) {w old new worth : ℕ} → w ≤ 19999999999 → new < 1000 → old ≡ addressIn x w → worth ≡ worthOf x → Swapped w old new worth
-swapped x {w} {old} {new} {worth} l k e f = rw (e, f) (swapped-in x w new l k)
+pub taken-small : (x : Address) (w : ℕ) {old worth : ℕ} → old ≡ addressIn x w → worth ≡ worthOf x → (old * worth ≤ w) × (old * worth ≤ 999000000)
+taken-small x w e f = rw (e, f) (taken-in x w)
+
+-- ---- by the digits
+
+raised-word : (w n : ℕ) → w + n ≡ withDigits w (digitsIn w + n)
+raised-word w n = omega arith
+
+lowered-word : (w n : ℕ) → n ≤ digitsIn w → w - n ≡ withDigits w (digitsIn w - n)
+lowered-word w n l = omega arith
+
+pub raised-past : (w n : ℕ) → 9999999999 < digitsIn w + n → Refused BadAddress ≡ raisedBy w n
+raised-past w n l = rw (lt-leb (digitsIn w + n) 9999999999 l)
+
+pub raised-held : (w n : ℕ) → digitsIn w + n ≤ 9999999999 → Result (w + n) ≡ raisedBy w n
+raised-held w n l = rw (le-leb (digitsIn w + n) 9999999999 l) (ap Result (raised-word w n))
+
+pub lowered-past : (w n : ℕ) → digitsIn w < n → Refused BadAddress ≡ loweredBy w n
+lowered-past w n l = rw (lt-leb n (digitsIn w) l)
+
+pub lowered-held : (w n : ℕ) → n ≤ digitsIn w → Result (w - n) ≡ loweredBy w n
+lowered-held w n l = rw (le-leb n (digitsIn w) l) (ap Result (lowered-word w n l))

@@ -9,7 +9,7 @@ use Rattle.rules.specs.Drum.{cellAt, wordAt}
 use Rattle.rules.specs.Decks.{judgedFrom}
 use Rattle.rules.specs.Codes.{codes, lookup, checked}
 use Rattle.rules.specs.Machine.{Machine, Inputs, Answer, counting, clearBox, isTraced, isTracing, withState, tracingSet, goingTo, onward, done, undone}
-use Rattle.rules.specs.Orders.{reckonedBy, stopsByLoss, reckoned, condStopped, gone, largest, raised, five, cardPunched, cardsPunched, punchSize, punched, read, tracingTo, retraced, performed}
+use Rattle.rules.specs.Orders.{reckonedBy, stopsByLoss, reckoned, condStopped, gone, largest, raised, changedWord, changed, five, cardPunched, cardsPunched, punchSize, punched, read, tracingTo, retraced, performed}
 use Rattle.rules.specs.Running.{orderFits, asDone, allowed, obeyedAs, codeDone, obeyed, traceSize, traceSent, traced, fetched, step}
 use Rattle.rules.specs.declared.Cell.{Cell}
 use Rattle.rules.specs.declared.Cell.the-variants.{Foreign, Owned}
@@ -42,6 +42,10 @@ either-same m false x y p q = q
 reckoned-same : (t : Bool) (m : Machine) (c : ℕ) (r : Reckoned) → Same m (reckoned t m c r .machine)
 reckoned-same t m c (Result w) = refl
 reckoned-same t m c (Refused f) = refl
+
+changed-same : (m : Machine) (b : ℕ) (r : Reckoned) → Same m (changed m b r .machine)
+changed-same m b (Result w) = refl
+changed-same m b (Refused f) = refl
 
 cond-same : (t : Bool) (m : Machine) (b c : ℕ) → Same m (condStopped t m b c .machine)
 cond-same true m b c = refl
@@ -91,7 +95,7 @@ performed-same i m (Loop x y z) a b c = round-same (ltb (largest (m .state) x y 
         → Same m (pick t (goingTo (withState m (counting (m .state) (raised (m .state) x y z))) c) (onward (withState m (counting (m .state) clearBox))))
     round-same true = refl
     round-same false = refl
-performed-same i m (Change k x) a b c = refl
+performed-same i m (Change k x) a b c = changed-same m b (changedWord (i .requests .sumsCarry) k x (wordAt (m .cells) b) c)
 performed-same i m Read a b c = read-same i m (judgedFrom (i .deck) (m .state .reader) b c)
 performed-same i m Pch a b c =
     let n : ℕ = c + 1 - b in

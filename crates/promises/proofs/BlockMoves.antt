@@ -1,64 +1,33 @@
 -- Why block moves and address tests do what is said of them: such an order is found in the table by its first digit, its checks go by its class,
 -- and what it then does is what the rules say. Assumes nothing.
-use Prim.Native.Nat.{ℕ, zero, suc, _+_, _-_, _*_, _≤_, _<_}
+use Prim.Native.Nat.{ℕ, zero, _+_, _-_, _*_, _≤_, _<_}
 use mathlib.Core.Path.{_≡_, refl, sym, ap, subst, _∙_}
-use mathlib.Core.List.{List}
 use mathlib.Core.Bool.{Bool, true, false}
 use native.Mathlib.Omega.{arith}
-use lib.Dec.{eqb, leb, ltb}
-use lib.ListN.{length, getD}
+use lib.Dec.{eqb}
+use lib.ListN.{length}
 use borrow.Author.Tests.{le-leb, lt-ltb, eq-eqb, ne-eqb}
 use Rattle.rules.specs.Words.{pick, both, firstDigit, aIn, bIn, cIn, addressIn}
 use Rattle.rules.specs.Drum.{cellAt, wordAt, isOwned, shown}
-use Rattle.rules.specs.Codes.{codes, lookup, codeIn, pchCode, isBlockMove, andThen, unless, blockLies, ownedAt, ownedFrom, checked}
-use Rattle.rules.specs.Machine.{Machine, Inputs, Answer, isTraced, isTracing, goingTo, done, undone}
-use Rattle.rules.specs.Orders.{cellsMoved, blockMoved, comparedTo, performed}
-use Rattle.rules.specs.Running.{orderFits, asDone, allowed, obeyedAs, codeDone, obeyed, traceWords, traceSent, traceSize, traced, fetched, step}
+use Rattle.rules.specs.Codes.{codes, lookup, codeIn, pchCode, andThen, unless, blockLies, ownedFrom, checked}
+use Rattle.rules.specs.Machine.{Machine, Inputs, Answer, goingTo, done, undone}
+use Rattle.rules.specs.Orders.{blockMoved, performed}
+use Rattle.rules.specs.Running.{allowed, step}
 use Rattle.rules.specs.declared.Address.{Address}
 use Rattle.rules.specs.declared.Address.the-variants.{OfA, OfB, OfC}
 use Rattle.rules.specs.declared.Cell.{Cell}
 use Rattle.rules.specs.declared.Cell.the-variants.{Foreign, Owned}
-use Rattle.rules.specs.declared.Refusal.the-variants.{BadAddress, Unmarked, NoRoom}
+use Rattle.rules.specs.declared.Refusal.the-variants.{BadAddress, Unmarked}
 use Rattle.rules.specs.declared.Checked.{Checked}
-use Rattle.rules.specs.declared.Checked.the-variants.{Passes, Refuses}
-use Rattle.rules.specs.declared.Built.{Built}
+use Rattle.rules.specs.declared.Checked.the-variants.{Passes}
 use Rattle.rules.specs.declared.Built.the-variants.{As}
-use Rattle.rules.specs.declared.Class.{Class}
 use Rattle.rules.specs.declared.Class.the-variants.{BlockMoved, Compared}
-use Rattle.rules.specs.declared.Operation.{Operation}
 use Rattle.rules.specs.declared.Operation.the-variants.{MoveBlock, Compare}
 use Rattle.rules.proofs.Tests.{false-true}
 use Rattle.rules.proofs.BlockMoves.{stored-long, moved-there, moved-elsewhere, block-begins, block-ends, owned-each, owned-all}
-use Rattle.promises.specs.BlockMoves.{Next, told, Lies, Moved, MovesBlock, BlockMoves, BlockMoveTold, digitOf, TestsAddress, AddressTests}
-
--- ---- an order that comes next is obeyed, once it is told
-
-module _ (i : Inputs) (m : Machine) (order w : ℕ) (h : Next i m order w) where
-  traced-is : traced i m order w ≡ obeyed i (told m order w) w
-  unfolding traced
-  traced-is = by-tracing (isTracing (m .state)) refl
-    where
-      by-tracing : (t : Bool) → isTracing (m .state) ≡ t
-          → pick t (pick (leb (length (m .sent) + traceSize) (i .room)) (obeyed i (traceSent m order w) w) (undone NoRoom m)) (obeyed i m w)
-          ≡ obeyed i (pick t (traceSent m order w) m) w
-      by-tracing true e = rw (le-leb (length (m .sent) + traceSize) (i .room) (h .room e))
-      by-tracing false e = refl
-
-  step-is : step i m ≡ obeyed i (told m order w) w
-  unfolding step fetched
-  step-is =
-      rw (le-leb 1 (m .state .location) (h .behind-000), le-leb (m .state .location) 999 (h .within), h .cell, h .fits, h .done-as) traced-is
-
--- ---- by its code, which is not PCH's, its checks and itself
-
-obeyed-by : (i : Inputs) (u : Machine) (w code : ℕ) (o : Operation) (k : Class) → codeIn w ≡ code → (code ≡ pchCode → ⊥) → lookup code codes ≡ As o k
-    → obeyed i u w ≡ allowed i u o (aIn w) (bIn w) (cIn w) (checked k (u .cells) (aIn w) (bIn w) (cIn w))
-unfolding obeyed
-obeyed-by i u w code o k e f g = ap (obeyedAs i u (aIn w) (bIn w) (cIn w)) (ap (λ (n : ℕ). lookup n codes) (done-code (isTraced (u .state))) ∙ g)
-  where
-    done-code : (t : Bool) → codeDone t w ≡ code
-    done-code true = rw (ne-eqb (codeIn w) pchCode (λ q. f (sym e ∙ q))) e
-    done-code false = e
+use Rattle.promises.specs.Next.{told}
+use Rattle.promises.specs.BlockMoves.{Lies, Moved, MovesBlock, BlockMoves, BlockMoveTold, digitOf, TestsAddress, AddressTests}
+use Rattle.promises.proofs.Next.{step-is, obeyed-by, told-long}
 
 -- ---- block moves
 
@@ -123,13 +92,6 @@ module _ (i : Inputs) (u : Machine) (n b c : ℕ) where
         foreign = λ p q k g f. e ∙ move-foreign p q k g f;
         owned = λ p q f. subst (λ (y : Answer). Moved y u n b c) (sym (e ∙ move-owned p q f)) (moved l q f);
       }
-
-told-long : (m : Machine) (order w : ℕ) → length (told m order w .cells) ≡ length (m .cells)
-told-long m order w = by-tracing (isTracing (m .state))
-  where
-    by-tracing : (t : Bool) → length (pick t (traceSent m order w) m .cells) ≡ length (m .cells)
-    by-tracing true = refl
-    by-tracing false = refl
 
 pub block-moves : BlockMoves
 block-moves i m order w h e l =

@@ -25,4 +25,6 @@ pub mod CardFaults
 pub mod DeckChecks
 pub mod DeckFound
 pub mod DeckFaults
+pub mod Next
 pub mod BlockMoves
+pub mod AddressSums

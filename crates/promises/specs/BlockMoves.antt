@@ -3,31 +3,17 @@
 -- Assumes nothing.
 use Prim.Native.Nat.{ℕ, _+_, _≤_, _<_}
 use mathlib.Core.Path.{_≡_}
-use mathlib.Core.Bool.{true}
 use lib.ListN.{length, getD}
-use Rattle.rules.specs.Words.{pick, firstDigit, aIn, bIn, cIn, addressIn}
+use Rattle.rules.specs.Words.{firstDigit, aIn, bIn, cIn, addressIn}
 use Rattle.rules.specs.Drum.{cellAt, wordAt}
-use Rattle.rules.specs.Machine.{Machine, Inputs, Answer, isTracing, goingTo, wentTo, done, undone}
-use Rattle.rules.specs.Running.{orderFits, asDone, traceWords, traceSent, traceSize, step}
+use Rattle.rules.specs.Machine.{Machine, Inputs, Answer, goingTo, wentTo, done, undone}
+use Rattle.rules.specs.Running.{traceWords, step}
 use Rattle.rules.specs.declared.Address.{Address}
 use Rattle.rules.specs.declared.Address.the-variants.{OfA, OfB, OfC}
 use Rattle.rules.specs.declared.Cell.the-variants.{Foreign, Owned}
 use Rattle.rules.specs.declared.Refusal.the-variants.{BadAddress, Unmarked}
 use Rattle.rules.specs.declared.Outcome.the-variants.{GoesOn}
-
--- The next order is the word `order` in its cell, and is done as w; where tracing is on, its trace card has room.
-pub record Next (i : Inputs) (m : Machine) (order w : ℕ) : Type 0 where
-  pub long : length (m .cells) ≡ 1000
-  pub behind-000 : 1 ≤ m .state .location
-  pub within : m .state .location ≤ 999
-  pub cell : cellAt (m .cells) (m .state .location) ≡ Owned order
-  pub fits : orderFits (m .state) order ≡ true
-  pub done-as : asDone (m .state) order ≡ w
-  pub room : isTracing (m .state) ≡ true → length (m .sent) + traceSize ≤ i .room
-
--- the machine once the trace card is written
-abbrev pub told : Machine → ℕ → ℕ → Machine
-told m order w = pick (isTracing (m .state)) (traceSent m order w) m
+use Rattle.promises.specs.Next.{Next, told}
 
 -- ---- MOVE with A not 000
 

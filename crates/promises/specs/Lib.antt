@@ -15,4 +15,6 @@ pub mod Prepared
 pub mod LossStops
 pub mod LostDigits
 pub mod DeckFaults
+pub mod Next
 pub mod BlockMoves
+pub mod AddressSums

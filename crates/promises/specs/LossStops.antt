@@ -1,10 +1,10 @@
 -- What the stop 03 changes of a run: nothing with the switch on RUN, and on STOP nothing but that the run ends there. A run without this stop
--- is one by the requests of the base. Assumes nothing.
+-- is one by all other requests. Assumes nothing.
 use Prim.Native.Nat.{ℕ, _+_}
 use mathlib.Core.Path.{_≡_}
 use mathlib.Core.Bool.{true, false}
 use Rattle.rules.specs.Drum.{cellAt}
-use Rattle.rules.specs.Machine.{Machine, Inputs, base, done}
+use Rattle.rules.specs.Machine.{Machine, Inputs, present, withoutLossStops, done}
 use Rattle.rules.specs.Running.{step, RunCall, RunResult, ran, ranBy}
 use Rattle.rules.specs.declared.Cell.the-variants.{Owned}
 use Rattle.rules.specs.declared.Switches.{Switches}
@@ -17,11 +17,11 @@ use Rattle.promises.specs.Calls.{runOf}
 
 -- With the switch on RUN a run is what it is without the stop 03, in every part: of any call, one that is refused included.
 abbrev pub OnRunAsBefore : Type 0
-OnRunAsBefore = (c : RunCall) → c .switches .stop ≡ false → ran c ≡ ranBy base c
+OnRunAsBefore = (c : RunCall) → c .switches .stop ≡ false → ran c ≡ ranBy (withoutLossStops present) c
 
 -- So is a run with the switch on STOP, unless 03 ends it.
 abbrev pub OnStopAsBefore : Type 0
-OnStopAsBefore = (c : RunCall) → ((w : ℕ) → ran c .ending ≡ Ran (Stops Lost w) → ⊥) → ran c ≡ ranBy base c
+OnStopAsBefore = (c : RunCall) → ((w : ℕ) → ran c .ending ≡ Ran (Stops Lost w) → ⊥) → ran c ≡ ranBy (withoutLossStops present) c
 
 -- the switch on RUN
 abbrev pub run : Switches
@@ -52,7 +52,7 @@ withBudgetUsed x =
 abbrev pub LossStopOnlyStops : Type 0
 LossStopOnlyStops =
     (c : RunCall) (w : ℕ) → ran c .ending ≡ Ran (Stops Lost w)
-    → (ran (onRun (forOrders (ran c .count) c)) ≡ withBudgetUsed (ran c)) × (ranBy base (forOrders (ran c .count) c) ≡ withBudgetUsed (ran c))
+    → (ran (onRun (forOrders (ran c .count) c)) ≡ withBudgetUsed (ran c)) × (ranBy (withoutLossStops present) (forOrders (ran c .count) c) ≡ withBudgetUsed (ran c))
 
 -- ---- orders
 

@@ -99,6 +99,14 @@ sessions =
     "X0001001+9002010003+9002010003+0000000000+7000000050+1000000050+0000000000000Z020002000001+0000000000" ∷
     -- TR B asks for the B-address of the word at A: unequal, so C is next; there TR A finds its own A-address equal to B, and goes on
     worked "20001001+7002500009+350040000000010002009+6009009001000T001000" false false 2 0 "Z020010000002+0000000000" ∷
+    -- ADD C to the next order, 0 453, which is not built: the sum carries through B into A, and the order that is done is NOOP
+    worked "30001001+0006002001+0453999999+0000002000000T001000" false false 9 0 "Z000003000003+0454000000" ∷
+    -- SUB C borrows of B, and the minus stays
+    worked "20001001+0007010001+041001001000010002010-0000001000000T001000" false false 2 22
+    "10001010-0000000999000Z020003000002+0000000000" ∷
+    -- traced, ADD A past the ten digits is refused behind its card
+    worked "20001001+0600002001-9999000000000T001000" true false 9 77
+    "X0001001+0600002001+0600002001+0000000000+0000000000-9999000000+0000000000000Z200001000000+0000000000" ∷
     []
 
 -- every session writes what it should

@@ -14,7 +14,7 @@ use Rattle.rules.specs.Drum.{cellAt, wordAt}
 use Rattle.rules.specs.Decks.{dataFrom, judgedFrom}
 use Rattle.rules.specs.Codes.{codes, lookup, checked}
 use Rattle.rules.specs.Machine.{Machine, Inputs, Answer, counting, clearBox, withState, goingTo, isTraced, isTracing, onward, done, undone}
-use Rattle.rules.specs.Orders.{reckonedBy, stopsByLoss, reckoned, condStopped, gone, largest, raised, looped, cardsPunched, punchSize, punched, read, retraced, performed}
+use Rattle.rules.specs.Orders.{reckonedBy, stopsByLoss, reckoned, condStopped, gone, largest, raised, looped, changedWord, changed, cardsPunched, punchSize, punched, read, retraced, performed}
 use Rattle.rules.specs.Running.{allowed, obeyedAs, codeDone, obeyed, asDone, orderFits, traceWords, traceSent, traceSize, traced, fetched, step}
 use Rattle.rules.specs.declared.Cell.{Cell}
 use Rattle.rules.specs.declared.Cell.the-variants.{Foreign, Owned}
@@ -38,6 +38,7 @@ use Rattle.rules.specs.declared.Tracing.{Tracing}
 use Rattle.rules.specs.declared.Tracing.the-variants.{StartTr, StopTr, StTrEras}
 use Rattle.rules.proofs.Tests.{false-true}
 use Rattle.rules.proofs.Refusals.{Other, OfReckoned, OfChecked, OfJudged, OfOutcome, reckoned-other, checked-other, judged-other}
+use Rattle.rules.proofs.Changes.{changed-other}
 use Rattle.rules.proofs.Undone.{obeyed-stays}
 use Rattle.rules.proofs.Sound.{Steady}
 use Rattle.rules.proofs.Fields.{length-trace}
@@ -66,6 +67,10 @@ module _ (i : Inputs) where
   reckoned-writes true m c (Result w) h = quiet m false _ tt refl
   reckoned-writes false m c (Result w) h = quiet m false _ tt refl
   reckoned-writes t m c (Refused r) h = quiet m false _ h refl
+
+  changed-writes : (m : Machine) (b : ℕ) (r : Reckoned) → OfReckoned r → Writes i m false (changed m b r)
+  changed-writes m b (Result w) h = quiet m false _ tt refl
+  changed-writes m b (Refused r) h = quiet m false _ h refl
 
   cond-writes : (t : Bool) (m : Machine) (b c : ℕ) → Writes i m false (condStopped t m b c)
   cond-writes true m b c = quiet m false _ tt refl
@@ -120,7 +125,9 @@ module _ (i : Inputs) where
   performed-writes m Move a b c f l = quiet m false _ tt refl
   performed-writes m (Go g) a b c f l = gone-writes m g b c
   performed-writes m (Loop x y z) a b c f l = looped-writes m x y z b c
-  performed-writes m (Change k x) a b c f l = quiet m false _ tt refl
+  performed-writes m (Change k x) a b c f l =
+      changed-writes m b (changedWord (i .requests .sumsCarry) k x (wordAt (m .cells) b) c)
+      (changed-other (i .requests .sumsCarry) k x (wordAt (m .cells) b) c)
   performed-writes m Read a b c f l =
       read-writes m (judgedFrom (i .deck) (m .state .reader) b c) (judged-other (dataFrom (i .deck) (m .state .reader)) (m .state .reader) b c)
   performed-writes m Pch a b c f l = let k = f refl in punched-writes m b (c + 1 - b) (omega arith)

@@ -12,7 +12,7 @@ use Rattle.rules.specs.Cards.{wordIn, wordPlace}
 use Rattle.rules.specs.Decks.{DataCard, dataFrom, wordsStored, cardsStored, judgedFrom}
 use Rattle.rules.specs.Codes.{codes, lookup, checked}
 use Rattle.rules.specs.Machine.{Machine, Inputs, Answer, counting, clearBox, isTraced, isTracing, withState, goingTo, onward, done, undone}
-use Rattle.rules.specs.Orders.{reckonedBy, stopsByLoss, reckoned, condStopped, gone, largest, raised, five, cardPunched, cardsPunched, punchSize, punched, wordsFrom, read, erased, retraced, performed}
+use Rattle.rules.specs.Orders.{reckonedBy, stopsByLoss, reckoned, condStopped, gone, largest, raised, changedWord, changed, five, cardPunched, cardsPunched, punchSize, punched, wordsFrom, read, erased, retraced, performed}
 use Rattle.rules.specs.Running.{allowed, obeyedAs, codeDone, obeyed, asDone, orderFits, traceSent, traceSize, traced, fetched, step, runFrom}
 use Rattle.rules.specs.declared.Cell.{Cell}
 use Rattle.rules.specs.declared.Cell.the-variants.{Foreign, Owned}
@@ -55,6 +55,10 @@ result-grows v c w k e = store-grows v c w k (store-grows (store v c w) 0 w k e)
 reckoned-grows : (t : Bool) (m : Machine) (c : ℕ) (r : Reckoned) → Grows (m .cells) (reckoned t m c r .machine .cells)
 reckoned-grows t m c (Result w) = result-grows (m .cells) c w
 reckoned-grows t m c (Refused r) = same (m .cells)
+
+changed-grows : (m : Machine) (b : ℕ) (r : Reckoned) → Grows (m .cells) (changed m b r .machine .cells)
+changed-grows m b (Result w) = store-grows (m .cells) b w
+changed-grows m b (Refused r) = same (m .cells)
 
 words-grow : (d : List ℕ) (l n : ℕ) (v : List Cell) → Grows v (wordsStored d l n v)
 unfolding wordsStored
@@ -124,7 +128,7 @@ performed-grows i m (Go g) a b c = gone-grows i m g b c
 performed-grows i m (Loop x y z) a b c =
     pick-grows (m .cells) (ltb (largest (m .state) x y z) b) (goingTo (withState m (counting (m .state) (raised (m .state) x y z))) c)
     (onward (withState m (counting (m .state) clearBox))) (same (m .cells)) (same (m .cells))
-performed-grows i m (Change k x) a b c = store-grows (m .cells) b _
+performed-grows i m (Change k x) a b c = changed-grows m b (changedWord (i .requests .sumsCarry) k x (wordAt (m .cells) b) c)
 performed-grows i m Read a b c = read-grows i m (judgedFrom (i .deck) (m .state .reader) b c)
 performed-grows i m Pch a b c = punched-grows i m b (c + 1 - b)
 performed-grows i m (Trace t) a b c = retraced-grows m t

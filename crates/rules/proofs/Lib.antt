@@ -20,6 +20,8 @@ pub mod Decks
 pub mod Faults
 pub mod Parts
 pub mod Results
+pub mod Refusals
+pub mod Changes
 pub mod States
 pub mod Agreed
 pub mod Tails
@@ -28,15 +30,16 @@ pub mod Sound
 pub mod SoundChanges
 pub mod SoundOrders
 pub mod Rooms
-pub mod Refusals
 pub mod Punching
 pub mod Full
 pub mod RoomRuns
 pub mod ShownWords
 pub mod Entered
+pub mod Steps
 pub mod LossStops
 pub mod Blocks
 pub mod MadeSizes
 pub mod MadeCells
 pub mod MadeDecks
 pub mod MovedBlocks
+pub mod ChangedAddresses

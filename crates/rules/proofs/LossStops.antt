@@ -11,22 +11,17 @@ use Rattle.rules.specs.Words.{pick, both, aIn, bIn, cIn}
 use Rattle.rules.specs.Numbers.{completed, mayGoOn}
 use Rattle.rules.specs.Drum.{cellAt, wordAt, store}
 use Rattle.rules.specs.Decks.{judgedFrom}
-use Rattle.rules.specs.Codes.{codes, lookup, checked}
-use Rattle.rules.specs.Machine.{Machine, Requests, Inputs, Answer, isTraced, isTracing, onward, done, undone}
-use Rattle.rules.specs.Orders.{reckonedBy, lossBy, stopsAt, reckoned, condStopped, gone, cardsPunched, punchSize, punched, read, performed}
-use Rattle.rules.specs.Running.{allowed, obeyedAs, codeDone, obeyed, asDone, orderFits, traceSent, traceSize, traced, fetched, step, Course, runFrom}
+use Rattle.rules.specs.Machine.{Machine, Requests, Inputs, Answer, onward, done, undone}
+use Rattle.rules.specs.Orders.{reckonedBy, lossBy, stopsAt, reckoned, condStopped, gone, changedWord, changed, cardsPunched, punchSize, punched, read, performed}
+use Rattle.rules.specs.Running.{fetched, step, Course, runFrom}
 use Rattle.rules.specs.declared.Cell.{Cell}
-use Rattle.rules.specs.declared.Cell.the-variants.{Foreign, Owned}
+use Rattle.rules.specs.declared.Cell.the-variants.{Owned}
 use Rattle.rules.specs.declared.Switches.{Switches}
 use Rattle.rules.specs.declared.Reckoned.{Reckoned}
 use Rattle.rules.specs.declared.Reckoned.the-variants.{Result, Refused}
 use Rattle.rules.specs.declared.Judged.{Judged}
 use Rattle.rules.specs.declared.Judged.the-variants.{Fits, Fails}
 use Rattle.rules.specs.declared.Refusal.the-variants.{BadAddress, NoRoom}
-use Rattle.rules.specs.declared.Checked.{Checked}
-use Rattle.rules.specs.declared.Checked.the-variants.{Passes, Refuses}
-use Rattle.rules.specs.declared.Built.{Built}
-use Rattle.rules.specs.declared.Built.the-variants.{As, No}
 use Rattle.rules.specs.declared.Stop.{Stop}
 use Rattle.rules.specs.declared.Stop.the-variants.{Unconditional, Conditional, Lost}
 use Rattle.rules.specs.declared.Outcome.{Outcome}
@@ -36,6 +31,7 @@ use Rattle.rules.specs.declared.Operation.the-variants.{Reckon, Move, Go
 use Rattle.rules.specs.declared.Going.{Going}
 use Rattle.rules.specs.declared.Going.the-variants.{UncStop, CondStop, TrSgn, TrExp, Tr, TrSubr, Noop}
 use Rattle.rules.proofs.Tests.{false-true, both-first, both-second}
+use Rattle.rules.proofs.Steps.{inputsWith, of-step}
 use Rattle.rules.proofs.RoomRuns.{run-on, run-ends, count-within}
 
 -- the same course as far as it went, and the run may go on
@@ -43,10 +39,6 @@ abbrev pub wentOn : Course → Course
 wentOn x = record { outcome = GoesOn; machine = x .machine; count = x .count }
 
 -- ---- an order by two inputs
-
--- the same but for the switches and the requests
-abbrev pub inputsWith : Switches → Requests → Inputs → Inputs
-inputsWith s q i = record { deck = i .deck; room = i .room; switches = s; requests = q }
 
 abbrev lossStop : Stop → Bool
 lossStop Unconditional = false
@@ -92,8 +84,9 @@ result-first [] c w h = let z : ⊥ = omega arith in absurd z
 result-first (x ∷ v) zero w h = refl
 result-first (x ∷ v) (suc c) w h = refl
 
--- j: inputs by which no loss stops a run, and whose switch is on STOP only where i's is
-module _ (i : Inputs) (s : Switches) (q : Requests) (never : (n : ℕ) → stopsAt (inputsWith s q i) n ≡ false) (less : s .stop ≡ true → i .switches .stop ≡ true) where
+-- j: inputs by which no loss stops a run, whose switch is on STOP only where i's is, and by which sums of addresses carry as by i
+module _ (i : Inputs) (s : Switches) (q : Requests) (never : (n : ℕ) → stopsAt (inputsWith s q i) n ≡ false) (less : s .stop ≡ true → i .switches .stop ≡ true)
+    (sums : q .sumsCarry ≡ i .requests .sumsCarry) where
   abbrev j : Inputs
   j = inputsWith s q i
 
@@ -131,6 +124,10 @@ module _ (i : Inputs) (s : Switches) (q : Requests) (never : (n : ℕ) → stops
   gone-eased m TrSubr b c = same refl
   gone-eased m Noop b c = same refl
 
+  changed-eased : (m : Machine) (b : ℕ) (r : Reckoned) → Eases m (changed m b r) (changed m b r)
+  changed-eased m b (Result w) = same refl
+  changed-eased m b (Refused r) = same refl
+
   read-eased : (m : Machine) (d : Judged) → Eases m (read i m d) (read j m d)
   read-eased m (Fits end) = same refl
   read-eased m (Fails r) = same refl
@@ -147,7 +144,8 @@ module _ (i : Inputs) (s : Switches) (q : Requests) (never : (n : ℕ) → stops
   performed-eased m Move a b c = same refl
   performed-eased m (Go g) a b c = gone-eased m g b c
   performed-eased m (Loop x y z) a b c = same refl
-  performed-eased m (Change k x) a b c = same refl
+  performed-eased m (Change k x) a b c =
+      rw sums (changed-eased m b (changedWord (i .requests .sumsCarry) k x (wordAt (m .cells) b) c))
   performed-eased m Read a b c = read-eased m (judgedFrom (i .deck) (m .state .reader) b c)
   performed-eased m Pch a b c =
       let n : ℕ = c + 1 - b in
@@ -157,41 +155,10 @@ module _ (i : Inputs) (s : Switches) (q : Requests) (never : (n : ℕ) → stops
   performed-eased m MoveBlock a b c = same refl
   performed-eased m (Compare x) a b c = same refl
 
-  allowed-eased : (m : Machine) (o : Operation) (a b c : ℕ) (k : Checked) → Eases m (allowed i m o a b c k) (allowed j m o a b c k)
-  allowed-eased m o a b c Passes = performed-eased m o a b c
-  allowed-eased m o a b c (Refuses r) = same refl
-
-  as-eased : (m : Machine) (a b c : ℕ) (k : Built) → Eases m (obeyedAs i m a b c k) (obeyedAs j m a b c k)
-  as-eased m a b c No = same refl
-  as-eased m a b c (As o k) = allowed-eased m o a b c (checked k (m .cells) a b c)
-
-  obeyed-eased : (m : Machine) (w : ℕ) → Eases m (obeyed i m w) (obeyed j m w)
-  unfolding obeyed
-  obeyed-eased m w = as-eased m (aIn w) (bIn w) (cIn w) (lookup (codeDone (isTraced (m .state)) w) codes)
-
-  traced-eased : (m : Machine) (w w′ : ℕ) → Eases m (traced i m w w′) (traced j m w w′)
-  unfolding traced
-  traced-eased m w w′ =
-      let t : Bool = leb (length (m .sent) + traceSize) (i .room) in
-      let u : Machine = traceSent m w w′ in
-      either-eased (isTracing (m .state)) (pick t (obeyed i u w′) (undone NoRoom m)) (obeyed i m w′) (pick t (obeyed j u w′) (undone NoRoom m)) (obeyed j m w′)
-      (either-eased t (obeyed i u w′) (undone NoRoom m) (obeyed j u w′) (undone NoRoom m) (obeyed-eased u w′) (same refl))
-      (obeyed-eased m w′)
-
-  fetched-eased : (m : Machine) (x : Cell) → Eases m (fetched i m x) (fetched j m x)
-  unfolding fetched
-  fetched-eased m Foreign = same refl
-  fetched-eased m (Owned w) =
-      let w′ : ℕ = asDone (m .state) w in
-      either-eased (orderFits (m .state) w) (traced i m w w′) (undone BadAddress m) (traced j m w w′) (undone BadAddress m) (traced-eased m w w′)
-      (same refl)
-
   pub step-eased : (m : Machine) → Eases m (step i m) (step j m)
-  unfolding step
   step-eased m =
-      let x : Cell = cellAt (m .cells) (m .state .location) in
-      either-eased (both (leb 1 (m .state .location)) (leb (m .state .location) 999)) (fetched i m x) (undone BadAddress m) (fetched j m x)
-      (undone BadAddress m) (fetched-eased m x) (same refl)
+      of-step i (λ (f : Switches → Requests → Answer). Eases m (f (i .switches) (i .requests)) (f s q)) m (λ r u. same refl)
+      (λ u w o h. rw (sym (h .same-cells), sym (h .same-location)) (performed-eased u o (aIn w) (bIn w) (cIn w)))
 
   -- ---- runs
 

@@ -11,7 +11,7 @@ use Rattle.rules.specs.Drum.{cellAt, wordAt}
 use Rattle.rules.specs.Decks.{judgedFrom}
 use Rattle.rules.specs.Codes.{codes, lookup, checked}
 use Rattle.rules.specs.Machine.{Machine, Inputs, Answer, counting, clearBox, isTraced, isTracing, withState, goingTo, onward, done, undone}
-use Rattle.rules.specs.Orders.{reckonedBy, stopsByLoss, reckoned, condStopped, gone, largest, raised, five, cardPunched, cardsPunched, punchSize, punched, read, retraced, performed}
+use Rattle.rules.specs.Orders.{reckonedBy, stopsByLoss, reckoned, condStopped, gone, largest, raised, changedWord, changed, five, cardPunched, cardsPunched, punchSize, punched, read, retraced, performed}
 use Rattle.rules.specs.Running.{allowed, obeyedAs, codeDone, obeyed, asDone, orderFits, traceSent, traceSize, traced, fetched, step}
 use Rattle.rules.specs.declared.Cell.{Cell}
 use Rattle.rules.specs.declared.Cell.the-variants.{Foreign, Owned}
@@ -90,6 +90,10 @@ module _ (p : List ℕ) (r : ℕ) (i : Inputs) where
   reckoned-alike t m c (Result w) = alike refl
   reckoned-alike t m c (Refused f) = alike refl
 
+  changed-alike : (m : Machine) (b : ℕ) (x : Reckoned) → Alike p (changed m b x) (changed (sentBefore p m) b x)
+  changed-alike m b (Result w) = alike refl
+  changed-alike m b (Refused f) = alike refl
+
   cond-alike : (t : Bool) (m : Machine) (b c : ℕ) → Alike p (condStopped t m b c) (condStopped t (sentBefore p m) b c)
   cond-alike true m b c = alike refl
   cond-alike false m b c = alike refl
@@ -127,7 +131,7 @@ module _ (p : List ℕ) (r : ℕ) (i : Inputs) where
   performed-alike m Move a b c = alike refl
   performed-alike m (Go g) a b c = gone-alike m g b c
   performed-alike m (Loop x y z) a b c = round-alike m x y z c (ltb (largest (m .state) x y z) b)
-  performed-alike m (Change k x) a b c = alike refl
+  performed-alike m (Change k x) a b c = changed-alike m b (changedWord (i .requests .sumsCarry) k x (wordAt (m .cells) b) c)
   performed-alike m Read a b c = read-alike m (judgedFrom (i .deck) (m .state .reader) b c)
   performed-alike m Pch a b c =
       let n : ℕ = c + 1 - b in

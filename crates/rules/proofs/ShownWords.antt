@@ -12,7 +12,7 @@ use Rattle.rules.specs.Drum.{cellAt, wordAt}
 use Rattle.rules.specs.Decks.{judgedFrom}
 use Rattle.rules.specs.Codes.{codes, lookup, checked}
 use Rattle.rules.specs.Machine.{Machine, Inputs, Answer, isTraced, isTracing, onward, done, undone}
-use Rattle.rules.specs.Orders.{reckonedBy, stopsByLoss, reckoned, condStopped, gone, cardsPunched, punchSize, punched, read, performed}
+use Rattle.rules.specs.Orders.{reckonedBy, stopsByLoss, reckoned, condStopped, gone, changedWord, changed, cardsPunched, punchSize, punched, read, performed}
 use Rattle.rules.specs.Running.{allowed, obeyedAs, codeDone, obeyed, asDone, orderFits, traceSent, traceSize, traced, fetched, step, runFrom}
 use Rattle.rules.specs.declared.Cell.{Cell}
 use Rattle.rules.specs.declared.Cell.the-variants.{Foreign, Owned}
@@ -64,6 +64,10 @@ module _ (i : Inputs) where
   going-shows m TrSubr b c h = omega arith
   going-shows m Noop b c h = omega arith
 
+  changing-shows : (m : Machine) (b : ℕ) (r : Reckoned) → ShowsWord (changed m b r)
+  changing-shows m b (Result w) = omega arith
+  changing-shows m b (Refused r) = omega arith
+
   reading-shows : (m : Machine) (j : Judged) → ShowsWord (read i m j)
   reading-shows m (Fits end) = omega arith
   reading-shows m (Fails r) = omega arith
@@ -76,7 +80,7 @@ module _ (i : Inputs) where
   performed-shows m Move a b c h = omega arith
   performed-shows m (Go g) a b c h = going-shows m g b c h
   performed-shows m (Loop x y z) a b c h = omega arith
-  performed-shows m (Change k x) a b c h = omega arith
+  performed-shows m (Change k x) a b c h = changing-shows m b (changedWord (i .requests .sumsCarry) k x (wordAt (m .cells) b) c)
   performed-shows m Read a b c h = reading-shows m (judgedFrom (i .deck) (m .state .reader) b c)
   performed-shows m Pch a b c h =
       let n : ℕ = c + 1 - b in

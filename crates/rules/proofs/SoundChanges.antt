@@ -12,7 +12,7 @@ use Rattle.rules.specs.Cards.{wordIn, wordPlace}
 use Rattle.rules.specs.Drum.{wordAt}
 use Rattle.rules.specs.Decks.{dataIn, dataFrom, wordsStored, cardsStored, mayStand}
 use Rattle.rules.specs.Machine.{Machine, Inputs, Answer, countA, countB, countC, counting, clearBox, numbered, readTo, tracingSet, isTraced, withState, stored, sending, goingTo, onward}
-use Rattle.rules.specs.Orders.{reckoned, isNegative, condStopped, gone, raise, raised, named, largest, newAddress, changedWord, comparedTo, five, cardPunched, cardsPunched, cellsMoved, tracingTo, erased, retraced}
+use Rattle.rules.specs.Orders.{reckoned, isNegative, condStopped, gone, raise, raised, named, largest, changed, comparedTo, five, cardPunched, cardsPunched, cellsMoved, tracingTo, erased, retraced}
 use Rattle.rules.specs.declared.Cell.{Cell}
 use Rattle.rules.specs.declared.State.{State}
 use Rattle.rules.specs.declared.Reckoned.{Reckoned}
@@ -20,9 +20,7 @@ use Rattle.rules.specs.declared.Reckoned.the-variants.{Result, Refused}
 use Rattle.rules.specs.declared.Going.{Going}
 use Rattle.rules.specs.declared.Going.the-variants.{UncStop, CondStop, TrSgn, TrExp, Tr, TrSubr, Noop}
 use Rattle.rules.specs.declared.Address.{Address}
-use Rattle.rules.specs.declared.Address.the-variants.{OfA, OfB, OfC}
-use Rattle.rules.specs.declared.Changing.{Changing}
-use Rattle.rules.specs.declared.Changing.the-variants.{SetTo, AddTo, SubFrom}
+use Rattle.rules.specs.declared.Address.the-variants.{OfC}
 use Rattle.rules.specs.declared.Tracing.{Tracing}
 use Rattle.rules.specs.declared.Tracing.the-variants.{StartTr, StopTr, StTrEras}
 use Rattle.rules.proofs.Results.{Fits as IsWord}
@@ -45,16 +43,6 @@ one-of false x y k p q = q
 raise-fits : (x : Bool) (n k : ℕ) → n ≤ 999 → named x n ≤ k → k ≤ 999 → raise x n ≤ 999
 raise-fits true n k f g l = omega arith
 raise-fits false n k f g l = f
-
-new-small : (k : Changing) (x c : ℕ) → c ≤ 999 → newAddress k x c ≤ 999
-new-small SetTo x c l = l
-new-small AddTo x c l = omega arith
-new-small SubFrom x c l = omega arith
-
-swapped : (x : Address) (w new : ℕ) → w ≤ 19999999999 → new ≤ 999 → withAddress x w new ≤ 19999999999
-swapped OfA w new l k = omega arith
-swapped OfB w new l k = omega arith
-swapped OfC w new l k = omega arith
 
 -- PCH moves no location
 pub punched-location : (j : ℕ) (m : Machine) (b n : ℕ) → cardsPunched j m b n .state .location ≡ m .state .location
@@ -223,12 +211,10 @@ module _ {deck : List ℕ} {behind : ℕ} where
       (raise-fits z (countC (m .state)) b (h .state .of-c) (omega arith) j) h)
   loops m x y z b c j k l h false e = goes-on l (counts 0 0 0 (omega arith) (omega arith) (omega arith) h)
 
-  pub changes : (m : Machine) (k : Changing) (x : Address) (b c : ℕ) → c ≤ 999 → m .state .location ≤ 999 → Sound deck behind m
-      → Sound deck behind (onward (stored m b (changedWord k x (wordAt (m .cells) b) c)))
-  changes m k x b c j l h =
-      let w : ℕ = wordAt (m .cells) b in
-      goes-on l
-      (stores b (changedWord k x w c) (swapped x w (newAddress k (addressIn x w) c) (h .cells .words b) (new-small k (addressIn x w) c j)) h)
+  pub changes : (m : Machine) (b : ℕ) (r : Reckoned) → IsWord r → m .state .location ≤ 999 → Sound deck behind m
+      → Sound deck behind (changed m b r .machine)
+  changes m b (Result w) f l h = goes-on l (stores b w f h)
+  changes m b (Refused r) f l h = h
 
   pub compares : (m : Machine) (x : Address) (a b c : ℕ) → c ≤ 999 → m .state .location ≤ 999 → Sound deck behind m
       → Sound deck behind (comparedTo m x a b c)

@@ -12,7 +12,7 @@ use Rattle.rules.specs.Drum.{cellAt, wordAt}
 use Rattle.rules.specs.Decks.{dataFrom, cardsStored, judgedFrom}
 use Rattle.rules.specs.Codes.{codes, lookup, checked}
 use Rattle.rules.specs.Machine.{Machine, Inputs, Answer, isTraced, isTracing, onward, done, undone}
-use Rattle.rules.specs.Orders.{reckonedBy, stopsByLoss, largest, cardsPunched, punchSize, punched, read, performed}
+use Rattle.rules.specs.Orders.{reckonedBy, stopsByLoss, largest, changedWord, cardsPunched, punchSize, punched, read, performed}
 use Rattle.rules.specs.Running.{allowed, obeyedAs, codeDone, obeyed, asDone, orderFits, traceSent, traceSize, traced, fetched, step, runFrom}
 use Rattle.rules.specs.declared.Cell.{Cell}
 use Rattle.rules.specs.declared.Cell.the-variants.{Foreign, Owned}
@@ -27,6 +27,7 @@ use Rattle.rules.specs.declared.Operation.{Operation}
 use Rattle.rules.specs.declared.Operation.the-variants.{Reckon, Move, Go, Loop, Change, Read, Pch, Trace, MoveBlock, Compare}
 use Rattle.rules.proofs.Tests.{both-second}
 use Rattle.rules.proofs.Results.{reckoned-fits}
+use Rattle.rules.proofs.Changes.{changed-fits}
 use Rattle.rules.proofs.Tails.{Tail}
 use Rattle.rules.proofs.Readers.{tail-from, read-leaves}
 use Rattle.rules.proofs.SoundChanges.{Sound, cards-stored, punched-location, either-sound, goes-on, stores, sends, reckons, goings, loops, changes, compares, punches, moves, retraces, reads-to}
@@ -54,7 +55,9 @@ module _ (i : Inputs) (behind : ℕ) (tail : Tail (i .deck) behind) where
       goes-on l (stores 0 w (h .cells .words b) (stores c w (h .cells .words b) h))
   performs m (Go g) a b c j k l h = goings i m g b c j k l h
   performs m (Loop x y z) a b c j k l h = loops m x y z b c j k l h (ltb (largest (m .state) x y z) b) refl
-  performs m (Change k x) a b c j n l h = changes m k x b c n l h
+  performs m (Change k x) a b c j n l h =
+      let w : ℕ = wordAt (m .cells) b in
+      changes m b (changedWord (i .requests .sumsCarry) k x w c) (changed-fits (i .requests .sumsCarry) k x w c (h .cells .words b) n) l h
   performs m Read a b c j k l h = reads m b c l (judgedFrom (i .deck) (m .state .reader) b c) refl h
   performs m Pch a b c j k l h =
       let n : ℕ = c + 1 - b in

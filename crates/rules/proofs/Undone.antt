@@ -12,7 +12,7 @@ use Rattle.rules.specs.Drum.{cellAt, wordAt}
 use Rattle.rules.specs.Decks.{judgedFrom}
 use Rattle.rules.specs.Codes.{codes, lookup, codeIn, checked, pchCode}
 use Rattle.rules.specs.Machine.{Machine, Inputs, Answer, isTraced, isTracing, onward, done, undone}
-use Rattle.rules.specs.Orders.{reckonedBy, stopsByLoss, reckoned, condStopped, gone, punchSize, cardsPunched, punched, read, performed}
+use Rattle.rules.specs.Orders.{reckonedBy, stopsByLoss, reckoned, condStopped, gone, changedWord, changed, punchSize, cardsPunched, punched, read, performed}
 use Rattle.rules.specs.Running.{allowed, obeyedAs, codeDone, obeyed, asDone, orderFits, traceSent, traceSize, traced, fetched, step, Left}
 use Rattle.rules.specs.declared.Cell.{Cell}
 use Rattle.rules.specs.declared.Cell.the-variants.{Foreign, Owned}
@@ -44,6 +44,10 @@ reckoned-stays true m c (Result w) = false-true
 reckoned-stays false m c (Result w) = false-true
 reckoned-stays t m c (Refused r) = λ e. refl
 
+changed-stays : (m : Machine) (b : ℕ) (r : Reckoned) → Stays m (changed m b r)
+changed-stays m b (Result w) = false-true
+changed-stays m b (Refused r) = λ e. refl
+
 cond-stays : (t : Bool) (m : Machine) (b c : ℕ) → Stays m (condStopped t m b c)
 cond-stays true m b c = false-true
 cond-stays false m b c = false-true
@@ -74,7 +78,7 @@ performed-stays i m (Reckon r) a b c =
 performed-stays i m Move a b c = false-true
 performed-stays i m (Go g) a b c = gone-stays i m g b c
 performed-stays i m (Loop x y z) a b c = false-true
-performed-stays i m (Change k x) a b c = false-true
+performed-stays i m (Change k x) a b c = changed-stays m b (changedWord (i .requests .sumsCarry) k x (wordAt (m .cells) b) c)
 performed-stays i m Read a b c = read-stays i m (judgedFrom (i .deck) (m .state .reader) b c)
 performed-stays i m Pch a b c = punched-stays i m b (c + 1 - b)
 performed-stays i m (Trace t) a b c = false-true

@@ -18,16 +18,25 @@ pub record Machine : Type 0 where
   pub sent : List ℕ
   pub state : State
 
--- Which requests after the base a run goes by: whether a sum that has lost its digits may stop it. A run goes by all of them; the base is
--- there so that the two can be held against each other. A request that builds what was refused before has no field.
+-- Which requests after the base a run goes by: whether a sum that has lost its digits may stop it, and whether sums of addresses carry. A run
+-- goes by all of them; the base, and all but one of them, are there so that runs can be held against each other. A request that builds what was
+-- refused before has no field.
 pub record Requests : Type 0 where
   pub lossStops : Bool
+  pub sumsCarry : Bool
 
 abbrev pub present : Requests
-present = record { lossStops = true }
+present = record { lossStops = true; sumsCarry = true }
 
 abbrev pub base : Requests
-base = record { lossStops = false }
+base = record { lossStops = false; sumsCarry = false }
+
+-- the same requests without one of them
+abbrev pub withoutLossStops : Requests → Requests
+withoutLossStops q = record { lossStops = false; sumsCarry = q .sumsCarry }
+
+abbrev pub withoutCarries : Requests → Requests
+withoutCarries q = record { lossStops = q .lossStops; sumsCarry = false }
 
 -- what a run is lent beside the machine: the deck, the room for cards, and the console's switches; and the requests that it goes by
 pub record Inputs : Type 0 where

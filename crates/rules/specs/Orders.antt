@@ -5,7 +5,7 @@ use mathlib.Core.List.{List, [], _∷_, _++_}
 use mathlib.Core.Bool.{Bool, true, false}
 use lib.Dec.{eqb, leb, ltb}
 use lib.ListN.{length}
-use Rattle.rules.specs.Words.{pick, both, signIn, digitsIn, exponentIn, addressIn, withAddress}
+use Rattle.rules.specs.Words.{pick, both, signIn, digitsIn, exponentIn, worthOf, addressIn, withAddress, withDigits}
 use Rattle.rules.specs.Arithmetic.{addOf, subOf, mpyOf, divOf, ngmpyOf, sqrtOf, absOf, lossIn}
 use Rattle.rules.specs.Drum.{wordAt, store}
 use Rattle.rules.specs.Cards.{dataCard}
@@ -15,7 +15,7 @@ use Rattle.rules.specs.declared.Cell.{Cell}
 use Rattle.rules.specs.declared.State.{State}
 use Rattle.rules.specs.declared.Reckoned.{Reckoned}
 use Rattle.rules.specs.declared.Reckoned.the-variants.{Result, Refused}
-use Rattle.rules.specs.declared.Refusal.the-variants.{NoRoom}
+use Rattle.rules.specs.declared.Refusal.the-variants.{BadAddress, NoRoom}
 use Rattle.rules.specs.declared.Judged.{Judged}
 use Rattle.rules.specs.declared.Judged.the-variants.{Fits, Fails}
 use Rattle.rules.specs.declared.Stop.the-variants.{Unconditional, Conditional, Lost}
@@ -133,19 +133,44 @@ looped m x y z b c =
     pick (ltb (largest (m .state) x y z) b) (goingTo (withState m (counting (m .state) (raised (m .state) x y z))) c)
     (onward (withState m (counting (m .state) clearBox)))
 
--- ---- address changes: one address of the word at B; sign and other digits stay
+-- ---- address changes: one address of the word at B
 
--- from the address x: C itself, or C added or taken away, modulo 1000
+-- The base: from the address y, C itself, or C added to it or taken from it, modulo 1000. Sign and other digits stay.
 abbrev pub newAddress : Changing → ℕ → ℕ → ℕ
-newAddress SetTo x c = c
-newAddress AddTo x c = (x + c) % 1000
-newAddress SubFrom x c = (x + 1000 - c) % 1000
+newAddress SetTo y c = c
+newAddress AddTo y c = (y + c) % 1000
+newAddress SubFrom y c = (y + 1000 - c) % 1000
 
-abbrev pub changedWord : Changing → Address → ℕ → ℕ → ℕ
-changedWord k x w c = withAddress x w (newAddress k (addressIn x w) c)
+abbrev pub wrapped : Changing → Address → ℕ → ℕ → Reckoned
+wrapped k x w c = Result (withAddress x w (newAddress k (addressIn x w) c))
 
-abbrev pub changed : Machine → Changing → Address → ℕ → ℕ → Machine
-changed m k x b c = onward (stored m b (changedWord k x (wordAt (m .cells) b) c))
+-- Sums that carry: C, shifted to where that address stands, is added to all ten digits or taken from them. Where they cannot hold that, the
+-- order is refused; the sign stays. SET is that of the base.
+abbrev pub shifted : Address → ℕ → ℕ
+shifted x c = c * worthOf x
+
+abbrev pub raisedBy : ℕ → ℕ → Reckoned
+raisedBy w n = pick (leb (digitsIn w + n) 9999999999) (Result (withDigits w (digitsIn w + n))) (Refused BadAddress)
+
+abbrev pub loweredBy : ℕ → ℕ → Reckoned
+loweredBy w n = pick (leb n (digitsIn w)) (Result (withDigits w (digitsIn w - n))) (Refused BadAddress)
+
+abbrev pub carried : Changing → Address → ℕ → ℕ → Reckoned
+carried SetTo x w c = wrapped SetTo x w c
+carried AddTo x w c = raisedBy w (shifted x c)
+carried SubFrom x w c = loweredBy w (shifted x c)
+
+-- by either rule
+abbrev pub changedWord : Bool → Changing → Address → ℕ → ℕ → Reckoned
+changedWord true k x w c = carried k x w c
+changedWord false k x w c = wrapped k x w c
+
+abbrev pub changed : Machine → ℕ → Reckoned → Answer
+changed m b (Result w) = done (onward (stored m b w))
+changed m b (Refused r) = undone r m
+
+abbrev pub changedAt : Inputs → Machine → Changing → Address → ℕ → ℕ → Answer
+changedAt i m k x b c = changed m b (changedWord (i .requests .sumsCarry) k x (wordAt (m .cells) b) c)
 
 -- ---- address tests: an address of the word at A against B
 
@@ -233,7 +258,7 @@ performed i m (Reckon k) a b c = reckonedAt i m k (wordAt (m .cells) a) (wordAt 
 performed i m Move a b c = done (onward (resultAt m c (wordAt (m .cells) b)))
 performed i m (Go g) a b c = gone i m g b c
 performed i m (Loop x y z) a b c = done (looped m x y z b c)
-performed i m (Change k x) a b c = done (changed m k x b c)
+performed i m (Change k x) a b c = changedAt i m k x b c
 performed i m Read a b c = read i m (judgedFrom (i .deck) (m .state .reader) b c)
 performed i m Pch a b c = punched i m b (c + 1 - b)
 performed i m (Trace t) a b c = done (retraced m t)

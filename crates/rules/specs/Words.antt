@@ -65,3 +65,7 @@ cIn w = addressIn OfC w
 -- the word w with a for that address
 abbrev pub withAddress : Address → ℕ → ℕ → ℕ
 withAddress k w a = w - addressIn k w * worthOf k + a * worthOf k
+
+-- the word with the sign of w, and the ten digits d
+abbrev pub withDigits : ℕ → ℕ → ℕ
+withDigits w d = signIn w * 10000000000 + d

@@ -21,7 +21,7 @@ pub enum Refusal {
     NoCard,
 }
 
-// What arithmetic answers: the word to store, or why there is none.
+// What arithmetic or the change of an address answers: the word to store, or why there is none.
 pub enum Reckoned {
     Result(u64),
     Refused(Refusal),

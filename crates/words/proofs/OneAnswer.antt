@@ -14,8 +14,6 @@ use Rattle.words.proofs.address_in.Kinds as address-in-kinds
 use Rattle.words.proofs.address_in.Reads as address-in
 use Rattle.words.proofs.worth_of.Kinds as worth-of-kinds
 use Rattle.words.proofs.worth_of.Reads as worth-of
-use Rattle.words.proofs.changes.new_address.Kinds as new-address-kinds
-use Rattle.words.proofs.changes.new_address.Reads as new-address
 use Rattle.words.proofs.changes.linked_word.Kinds as linked-word-kinds
 use Rattle.words.proofs.changes.linked_word.Reads as linked-word
 use Rattle.words.proofs.targets.sign_target.Kinds as sign-target-kinds
@@ -43,9 +41,6 @@ one-address κs a x y s t p q = p ∙ sym q
 
 pub one-worth : OneResult 0 worth-of-kinds.ps worth-of-kinds.r worth-of.Post
 one-worth κs a x y s t p q = p ∙ sym q
-
-pub one-new-address : OneResult 0 new-address-kinds.ps new-address-kinds.r new-address.Post
-one-new-address κs a x y s t p q = p ∙ sym q
 
 pub one-linked-word : OneResult 0 linked-word-kinds.ps linked-word-kinds.r linked-word.Post
 one-linked-word κs a x y s t p q = p ∙ sym q

@@ -3,7 +3,6 @@ mod changes;
 mod targets;
 
 pub use changes::linked_word;
-pub use changes::new_address;
 pub use targets::address_target;
 pub use targets::exponent_target;
 pub use targets::sign_target;

@@ -1,62 +1,116 @@
--- `machine::changing::changed_word`: what is taken out is within the word, and what is put in leaves it a word. Assumes nothing.
-use Prim.Native.Nat.{_<_}
+-- `machine::changing::changed_word`: what is taken out and put in is within the word, and a sum is judged by its digits. Assumes nothing.
+use mathlib.Core.Path.{ap, _∙_}
+use Prim.Native.Nat.{ℕ, _*_, _≤_}
 use native.Mathlib.Omega.{arith}
-use Rattle.machine.proofs.Changes.{address-small, new-small, Swapped, swapped}
+use Rattle.rules.specs.Orders.{raisedBy, loweredBy}
+use Rattle.machine.proofs.Changes.{shifted-small, taken-small, raised-past, raised-held, lowered-past, lowered-held}
 use borrow.Author.Needs.{needs}
 use Rattle.machine.proofs.changing.changed_word.Statement.{statement}
 use Rattle.machine.proofs.changing.changed_word.Tie as tie
 
--- the two parts of the word, once both are known
-swap : (c : tie.After-worth-of)
-    → (let start : tie.Start = search in let old : tie.After-address-in = search in let new : tie.After-new-address = search in Swapped (start .args .w) (old .address-in .result) (new .new-address .result) (c .worth-of .result))
-swap c =
+-- the shifted C, and the address that SET takes out
+shifted-c : (c : tie.After-worth-of) → (let start : tie.Start = search in start .args .c * c .worth-of .result ≤ 999000000)
+shifted-c c =
     let start : tie.Start = search in
-    let old : tie.After-address-in = search in
-    let new : tie.After-new-address = search in
-    swapped (start .args .x) (start .pre .0) (rw (new .new-address .ensures) (new-small (start .args .k) _ (start .args .c) (start .pre .1))) (old .address-in .ensures) (c .worth-of .ensures)
+    shifted-small (start .args .x) (start .args .c) (c .worth-of .ensures) (start .pre .1)
 
-cast-new-address : tie.Need-cast-new-address
-cast-new-address c =
+taken : (c : tie.After-address-in)
+    → (let start : tie.Start = search in let worth : tie.After-worth-of = search in let part : ℕ = c .address-in .result * worth .worth-of .result in (part ≤ start .args .w) × (part ≤ 999000000))
+taken c =
     let start : tie.Start = search in
-    let small : c .address-in .result < 1000 = rw (c .address-in .ensures) (address-small (start .args .x) (start .args .w)) in
-    omega (arith, small)
+    let worth : tie.After-worth-of = search in
+    taken-small (start .args .x) (start .args .w) (c .address-in .ensures) (worth .worth-of .ensures)
 
-mul-less : tie.Need-mul-less
-mul-less c =
-    let s : Swapped _ _ _ _ = swap c in
-    record { fits = omega arith }
+mul-n : tie.Need-mul-n
+mul-n c = record { fits = omega (arith, shifted-c c) }
 
-mul-more : tie.Need-mul-more
-mul-more c =
-    let s : Swapped _ _ _ _ = swap c in
-    record { fits = omega arith }
+mul-part : tie.Need-mul-part
+mul-part c = record { fits = omega (arith, taken c .1) }
 
-sub-result : tie.Need-sub-result
-sub-result c =
-    swap c .less
+sub-put : tie.Need-sub-put
+sub-put c = taken c .0
 
-add-result : tie.Need-add-result
-add-result c =
-    let s : Swapped _ _ _ _ = swap c in
-    record { fits = omega arith }
+add-put : tie.Need-add-put
+add-put c =
+    let start : tie.Start = search in
+    let worth : tie.After-worth-of = search in
+    record { fits = omega (arith, start .pre .0, shifted-c worth) }
+
+add-sum : tie.Need-add-sum
+add-sum c =
+    let worth : tie.After-worth-of = search in
+    record { fits = omega (arith, shifted-c worth) }
 
 returns : tie.Need-returns
 returns c =
-    let old : tie.After-address-in = search in
-    let new : tie.After-new-address = search in
+    let start : tie.Start = search in
     let worth : tie.After-worth-of = search in
-    (rw (old .address-in .ensures, new .new-address .ensures, worth .worth-of .ensures, old .address-in .ensures), swap c .whole)
+    let told : tie.After-enum-told2 = search in
+    let a = start .args in
+    rw (told .enum-told2 .given .1)
+    (raised-past (a .w) (a .c * worth .worth-of .result) (c .if1 .taken) ∙ ap (λ (z : ℕ). raisedBy (a .w) (a .c * z)) (worth .worth-of .ensures))
+
+add-more : tie.Need-add-more
+add-more c =
+    let start : tie.Start = search in
+    let worth : tie.After-worth-of = search in
+    record { fits = omega (arith, start .pre .0, shifted-c worth) }
+
+returns-2 : tie.Need-returns-2
+returns-2 c =
+    let start : tie.Start = search in
+    let worth : tie.After-worth-of = search in
+    let told : tie.After-enum-told3 = search in
+    let a = start .args in
+    rw (told .enum-told3 .given .1)
+    (lowered-past (a .w) (a .c * worth .worth-of .result) (c .if2 .taken) ∙ ap (λ (z : ℕ). loweredBy (a .w) (a .c * z)) (worth .worth-of .ensures))
+
+sub-less : tie.Need-sub-less
+sub-less c = omega (arith, c .if2 .left)
+
+returns-3 : tie.Need-returns-3
+returns-3 c =
+    let start : tie.Start = search in
+    let worth : tie.After-worth-of = search in
+    let told : tie.After-enum-told = search in
+    rw (told .enum-told .given .1, c .address-in .ensures, worth .worth-of .ensures)
+
+returns-4 : tie.Need-returns-4
+returns-4 c =
+    let start : tie.Start = search in
+    let worth : tie.After-worth-of = search in
+    let told : tie.After-enum-told2 = search in
+    let a = start .args in
+    rw (told .enum-told2 .given .1)
+    (raised-held (a .w) (a .c * worth .worth-of .result) (omega (arith, c .if1 .left)) ∙ ap (λ (z : ℕ). raisedBy (a .w) (a .c * z)) (worth .worth-of .ensures))
+
+returns-5 : tie.Need-returns-5
+returns-5 c =
+    let start : tie.Start = search in
+    let worth : tie.After-worth-of = search in
+    let told : tie.After-enum-told3 = search in
+    let a = start .args in
+    rw (told .enum-told3 .given .1)
+    (lowered-held (a .w) (a .c * worth .worth-of .result) (omega (arith, c .if2 .left)) ∙ ap (λ (z : ℕ). loweredBy (a .w) (a .c * z)) (worth .worth-of .ensures))
 
 pub changed-word-spec : {M : Type 1} → statement M
 changed-word-spec =
     tie.close
     (tie.spec
     (λ c κs. search needs)
-    cast-new-address
+    mul-n
+    (λ c. search needs)
     (λ c κs. search needs)
-    (λ c κs. search needs)
-    mul-less
-    mul-more
-    sub-result
-    add-result
-    returns)
+    mul-part
+    sub-put
+    add-put
+    (λ c. search needs)
+    add-sum
+    returns
+    add-more
+    (λ c. search needs)
+    returns-2
+    sub-less
+    returns-3
+    returns-4
+    returns-5)

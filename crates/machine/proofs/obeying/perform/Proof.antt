@@ -62,7 +62,7 @@ returns-5 c =
     λ i l drum₀ out₀ m e h.
     let told : tie.After-o4 = search in
     let done : tie.After-change = search in
-    rw (told .o4 .given .1) (done .change .ensures drum₀ out₀ _ m h)
+    rw (told .o4 .given .1, l .requests-are) (done .change .ensures drum₀ out₀ _ m h)
 
 returns-6 : tie.Need-returns-6
 unfolding performed
