@@ -449,18 +449,31 @@ static int compare(struct run *r, uint64_t o1, uint64_t a, uint64_t b, uint64_t 
     return OK;
 }
 
-/* SET, ADD and SUB of the address that is worth `unit` in the word. */
+/* SET, ADD and SUB of the address that is worth `unit` in the word. ADD and SUB go through all ten digits. */
 static int change(struct run *r, int how, uint64_t unit, uint64_t b, uint64_t c)
 {
-    uint64_t w, x, y;
+    uint64_t w, d, by = c * unit;
     if (b == 0)
         return ADDRESS;
     if (!r->marks[b])
         return FOREIGN;
     w = r->drum[b];
-    x = w % MINUS / unit % 1000;
-    y = how == 5 ? c : how == 6 ? (x + c) % 1000 : (x + 1000 - c) % 1000;
-    store(r, b, w - x * unit + y * unit);
+    d = w % MINUS;
+    switch (how) {
+    case 5:
+        w = w - d / unit % 1000 * unit + by;
+        break;
+    case 6:
+        if (d + by >= MINUS)
+            return ADDRESS;
+        w += by;
+        break;
+    default:
+        if (d < by)
+            return ADDRESS;
+        w -= by;
+    }
+    r->drum[b] = w;
     r->s.at++;
     return OK;
 }
