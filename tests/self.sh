@@ -157,6 +157,15 @@ for fault in from-000 to-000 source-to-1000 destination-to-1000 21-before-20 one
     c-asked-for a-for-b a-for-c b-for-a b-for-c c-for-a c-for-b two-digits at-least b-of-a-cell minus-unequal equal-to-c test-23; do
     fails "sessions, moves: $fault" with_fault moves sessions "$fault"
 done
+build_c driver-changes panel tests/self/changes.c || exit 2
+fails 'sessions, no fault of changes' without_fault changes sessions
+for fault in wraps-within-the-address carry-lost borrow-lost minus-words-wrap wraps-while-tracing carry-to-the-next-alone not-into-o1 \
+    c-not-into-o1 overflow-wrapped below-zero-wrapped into-the-sign through-zero 10000000000-let-in toward-minus sign-lost minus-zero-lost \
+    20-at-9999999999 20-at-zero 20-for-any-carry 20-for-o1-changed set-judged 20-before-21 foreign-let-in b-000-let-in numbers-alone \
+    own-word-as-done add-for-sub a-for-b b-for-c c-for-a b-of-the-stored-order c-of-the-stored-order told-as-21 counted-with-20 \
+    location-moves-with-20 stored-before-20 counter-taken-back card-taken-back; do
+    fails "sessions, changes: $fault" with_fault changes sessions "$fault"
+done
 build_c judged-silent panel tests/self/silent.c || exit 2
 fails 'yardstick, silent' no_difference judged sessions
 echo "self: $tried checks tried with what does not work, $blind do not see it"

@@ -1,6 +1,6 @@
 /* A table of calls of the C face with what the paper says of each: P1 to P10 of its table, the turns of its rules, decks, the paper's
- * session, runs that stop for lost digits, block moves and address tests, calls that are refused at their entry, and decks made of drums.
- * Writes a line for each wrong answer, and a last line with the counts. */
+ * session, runs that stop for lost digits, block moves and address tests, address changes, calls that are refused at their entry, and decks
+ * made of drums. Writes a line for each wrong answer, and a last line with the counts. */
 #include "l1.h"
 
 int printf(const char *format, ...);
@@ -538,6 +538,239 @@ static void moves(void)
     }
 }
 
+/* The number of a word as a listing has it. */
+static uint64_t word(const char *text)
+{
+    uint64_t w = 0;
+    size_t i;
+    for (i = 1; text[i]; i++)
+        if (text[i] != ' ')
+            w = 10 * w + (uint64_t)(text[i] - '0');
+    return text[0] == '-' ? MINUS + w : w;
+}
+
+/* One address change, plain or traced. The word at B is `before`, or a foreign number where that is null, and `behind` afterwards, or as it
+ * was; the cell is foreign where the answer is 21. All cells, marks and numbers of the state are compared; some of the other cells are the
+ * job's. */
+static void change_once(const char *order, const char *before, uint64_t number, const char *behind, uint64_t traced)
+{
+    static char what[] = "+0 000 000 000 of +0 000 000 000";
+    static uint64_t words[CELLS];
+    static uint8_t owned[CELLS];
+    uint64_t must[STATE] = {number == 2 ? 501 : 500, 0, 0, 0, traced, 7, 29, traced, traced};
+    size_t b = word(order) / 1000 % 1000, i, cells = 0, numbers = 0;
+    struct l1_ended r;
+
+    for (i = 0; i < 14; i++) {
+        what[i] = order[i];
+        what[18 + i] = before ? before[i] : '?';
+    }
+    set_lone(word(order));
+    load(lone, CELLS, STATE, traced);
+    for (i = 1; i < CELLS; i++)
+        if (i % 7 == 2) {
+            drum[i] = i % 5 == 0 ? MINUS : i % 5 == 1 ? 9999999999ul : MINUS + ONE + i * 100;
+            marks[i] = 1;
+        }
+    if (before)
+        drum[b] = word(before);
+    marks[b] = number != 21;
+    for (i = 0; i < CELLS; i++) {
+        words[i] = drum[i];
+        owned[i] = marks[i];
+    }
+    if (behind)
+        words[b] = word(behind);
+    r = run(lone, CELLS, STATE, ROOM, 1, 1);
+    expect_ended(what, r, number, 0, number == 2, 0, 77 * traced);
+    for (i = 0; i < CELLS; i++)
+        cells += drum[i] == words[i] && marks[i] == owned[i];
+    for (i = 0; i < STATE; i++)
+        numbers += state[i] == must[i];
+    expect(what, numbers, cells, STATE, CELLS);
+}
+
+/* Address changes, plain and traced: ADD and SUB of each address, with no carry, with one through each number of addresses, and at both ends
+ * of ten digits; SET, which has none; and every kind of B. Then orders that are done as changed, and two that the loop box makes. */
+static void changes(void)
+{
+    static const struct {
+        const char *order, *before;
+        uint64_t number;
+        const char *behind;
+    } all[] = {
+        {"+0 006 600 001", "+1 234 567 123", 2, "+1 234 567 124"},
+        {"+0 006 600 999", "+0 000 000 000", 2, "+0 000 000 999"},
+        {"+0 006 600 000", "+9 999 999 999", 2, 0},
+        {"+0 006 600 001", "+1 234 567 999", 2, "+1 234 568 000"},
+        {"+0 006 600 999", "+1 234 567 999", 2, "+1 234 568 998"},
+        {"+0 006 600 001", "+1 234 999 999", 2, "+1 235 000 000"},
+        {"+0 006 600 999", "+1 234 999 001", 2, "+1 235 000 000"},
+        {"+0 006 600 001", "+1 999 999 999", 2, "+2 000 000 000"},
+        {"+0 006 600 999", "+0 999 999 999", 2, "+1 000 000 998"},
+        {"+0 006 600 001", "+9 999 999 998", 2, "+9 999 999 999"},
+        {"+0 006 600 999", "+9 999 999 000", 2, "+9 999 999 999"},
+        {"+0 006 600 001", "+9 999 999 999", 20, 0},
+        {"+0 006 600 999", "+9 999 999 001", 20, 0},
+        {"+0 006 600 001", "-1 234 567 123", 2, "-1 234 567 124"},
+        {"+0 006 600 001", "-1 234 567 999", 2, "-1 234 568 000"},
+        {"+0 006 600 001", "-8 999 999 999", 2, "-9 000 000 000"},
+        {"+0 006 600 999", "-9 999 999 000", 2, "-9 999 999 999"},
+        {"+0 006 600 001", "-9 999 999 999", 20, 0},
+        {"+0 006 600 001", "-0 000 000 000", 2, "-0 000 000 001"},
+        {"+0 006 600 000", "-0 000 000 000", 2, 0},
+
+        {"+0 060 600 001", "+1 234 567 890", 2, "+1 234 568 890"},
+        {"+0 060 600 999", "-0 000 000 000", 2, "-0 000 999 000"},
+        {"+0 060 600 000", "-9 999 999 999", 2, 0},
+        {"+0 060 600 001", "+1 234 999 890", 2, "+1 235 000 890"},
+        {"+0 060 600 999", "-1 234 999 890", 2, "-1 235 998 890"},
+        {"+0 060 600 001", "+1 999 999 890", 2, "+2 000 000 890"},
+        {"+0 060 600 001", "-0 999 999 999", 2, "-1 000 000 999"},
+        {"+0 060 600 999", "+9 999 000 999", 2, "+9 999 999 999"},
+        {"+0 060 600 001", "-9 999 998 999", 2, "-9 999 999 999"},
+        {"+0 060 600 001", "+9 999 999 000", 20, 0},
+        {"+0 060 600 999", "-9 999 001 000", 20, 0},
+
+        {"+0 600 600 001", "+1 234 567 890", 2, "+1 235 567 890"},
+        {"+0 600 600 999", "-0 000 000 000", 2, "-0 999 000 000"},
+        {"+0 600 600 000", "+9 999 999 999", 2, 0},
+        {"+0 600 600 001", "+1 999 567 890", 2, "+2 000 567 890"},
+        {"+0 600 600 999", "-1 999 567 890", 2, "-2 998 567 890"},
+        {"+0 600 600 999", "+0 001 000 000", 2, "+1 000 000 000"},
+        {"+0 600 600 999", "+9 000 999 999", 2, "+9 999 999 999"},
+        {"+0 600 600 001", "-9 998 999 999", 2, "-9 999 999 999"},
+        {"+0 600 600 001", "+9 999 000 000", 20, 0},
+        {"+0 600 600 999", "-9 001 000 000", 20, 0},
+
+        {"+0 007 600 001", "+1 234 567 124", 2, "+1 234 567 123"},
+        {"+0 007 600 999", "+9 999 999 999", 2, "+9 999 999 000"},
+        {"+0 007 600 000", "+0 000 000 000", 2, 0},
+        {"+0 007 600 001", "+1 234 567 000", 2, "+1 234 566 999"},
+        {"+0 007 600 999", "+1 234 567 998", 2, "+1 234 566 999"},
+        {"+0 007 600 001", "+1 234 000 000", 2, "+1 233 999 999"},
+        {"+0 007 600 999", "+1 234 000 998", 2, "+1 233 999 999"},
+        {"+0 007 600 001", "+2 000 000 000", 2, "+1 999 999 999"},
+        {"+0 007 600 999", "+1 000 000 000", 2, "+0 999 999 001"},
+        {"+0 007 600 001", "+0 000 000 001", 2, "+0 000 000 000"},
+        {"+0 007 600 999", "+0 000 000 999", 2, "+0 000 000 000"},
+        {"+0 007 600 001", "+0 000 000 000", 20, 0},
+        {"+0 007 600 999", "+0 000 000 998", 20, 0},
+        {"+0 007 600 001", "-1 234 567 124", 2, "-1 234 567 123"},
+        {"+0 007 600 001", "-1 234 567 000", 2, "-1 234 566 999"},
+        {"+0 007 600 001", "-9 000 000 000", 2, "-8 999 999 999"},
+        {"+0 007 600 001", "-0 000 000 001", 2, "-0 000 000 000"},
+        {"+0 007 600 999", "-0 000 000 999", 2, "-0 000 000 000"},
+        {"+0 007 600 001", "-0 000 000 000", 20, 0},
+        {"+0 007 600 000", "-0 000 000 000", 2, 0},
+
+        {"+0 070 600 001", "+1 234 568 890", 2, "+1 234 567 890"},
+        {"+0 070 600 999", "-9 999 999 999", 2, "-9 999 000 999"},
+        {"+0 070 600 000", "-0 000 000 999", 2, 0},
+        {"+0 070 600 001", "+1 234 000 890", 2, "+1 233 999 890"},
+        {"+0 070 600 999", "-1 234 998 890", 2, "-1 233 999 890"},
+        {"+0 070 600 001", "+2 000 000 890", 2, "+1 999 999 890"},
+        {"+0 070 600 001", "-1 000 000 000", 2, "-0 999 999 000"},
+        {"+0 070 600 999", "+0 000 999 000", 2, "+0 000 000 000"},
+        {"+0 070 600 001", "-0 000 001 000", 2, "-0 000 000 000"},
+        {"+0 070 600 001", "+0 000 000 999", 20, 0},
+        {"+0 070 600 999", "-0 000 998 999", 20, 0},
+
+        {"+0 700 600 001", "+1 235 567 890", 2, "+1 234 567 890"},
+        {"+0 700 600 999", "-9 999 999 999", 2, "-9 000 999 999"},
+        {"+0 700 600 000", "+0 000 999 999", 2, 0},
+        {"+0 700 600 001", "+2 000 567 890", 2, "+1 999 567 890"},
+        {"+0 700 600 999", "-2 998 567 890", 2, "-1 999 567 890"},
+        {"+0 700 600 999", "+1 000 000 000", 2, "+0 001 000 000"},
+        {"+0 700 600 999", "+0 999 000 000", 2, "+0 000 000 000"},
+        {"+0 700 600 001", "-0 001 000 000", 2, "-0 000 000 000"},
+        {"+0 700 600 001", "+0 000 999 999", 20, 0},
+        {"+0 700 600 999", "-0 998 999 999", 20, 0},
+
+        {"+0 500 600 000", "+9 999 999 999", 2, "+9 000 999 999"},
+        {"+0 500 600 999", "-9 999 999 999", 2, 0},
+        {"+0 500 600 999", "-0 000 000 000", 2, "-0 999 000 000"},
+        {"+0 050 600 000", "-9 999 999 999", 2, "-9 999 000 999"},
+        {"+0 050 600 999", "+9 999 000 999", 2, "+9 999 999 999"},
+        {"+0 050 600 000", "-0 000 999 000", 2, "-0 000 000 000"},
+        {"+0 005 600 000", "+9 999 999 999", 2, "+9 999 999 000"},
+        {"+0 005 600 999", "+0 000 000 000", 2, "+0 000 000 999"},
+        {"+0 005 600 000", "-0 000 000 999", 2, "-0 000 000 000"},
+
+        {"+0 006 001 001", "+1 234 567 999", 2, "+1 234 568 000"},
+        {"+0 070 999 001", "-1 234 000 890", 2, "-1 233 999 890"},
+        {"+0 006 999 001", "-9 999 999 999", 20, 0},
+        {"+0 006 500 999", "+0 006 500 999", 2, "+0 006 501 998"},
+        {"+0 600 500 600", "+0 600 500 600", 2, "+1 200 500 600"},
+        {"+0 070 500 501", "+0 070 500 501", 2, "+0 069 999 501"},
+        {"-0 007 500 501", "-0 007 500 501", 2, "-0 007 500 000"},
+        {"+0 700 500 700", "+0 700 500 700", 2, "+0 000 500 700"},
+        {"+0 700 500 701", "+0 700 500 701", 20, 0},
+
+        {"+0 500 000 001", "+0 000 000 000", 20, 0},
+        {"+0 060 000 001", "+0 000 000 000", 20, 0},
+        {"+0 006 000 000", "+9 999 999 999", 20, 0},
+        {"+0 007 000 001", "-0 000 000 001", 20, 0},
+        {"+0 005 600 001", 0, 21, 0},
+        {"+0 600 600 999", 0, 21, 0},
+        {"+0 007 600 000", 0, 21, 0},
+        {"+0 600 600 001", "+9 999 999 999", 21, 0},
+        {"+0 060 600 001", "-9 999 999 999", 21, 0},
+        {"+0 006 600 001", "+1 234 567 890", 21, 0},
+        {"+0 700 600 001", "-0 000 000 000", 21, 0},
+        {"+0 007 999 001", "+0 000 000 000", 21, 0},
+    };
+#define CHANGED(order, next) "20000500" order next "007" "10000600+2000000050007" "T500007"
+    static const struct {
+        const char *what, *deck;
+        uint64_t number, count, location;
+        size_t cell;
+        uint64_t word;
+    } done[] = {
+        {"0 999 becomes ADD", CHANGED("+0600501001", "+0999600601"), 2, 2, 502, 601, TWO},
+        {"ADD becomes 0 999", CHANGED("+0700501001", "+1000600601"), 23, 1, 501, 501, 999600601},
+        {"TR C becomes MOVE", CHANGED("+0006501601", "+8999999999"), 2, 2, 502, 600, 0},
+        {"TR EXP becomes TR", CHANGED("+0060501001", "+0202999600"), 2, 2, 600, 501, 203000600},
+        {"a MOVE from 601 becomes one from 600", CHANGED("+0007501001", "+9001601000"), 2, 2, 502, 999, TWO},
+        {"ADD A becomes ADD, and is done again", CHANGED("+0600500400", "+0203000500"), 2, 3, 501, 400, 1000500400},
+    };
+    static const char *const full = "10000500-0005599000007" "10000600-9999999999007" "T500007";
+    static const uint64_t left[STATE] = {500, 1, 1, 1, 2, 7, 51, 1, 1};
+    const char *what = "a refused sum that is traced";
+    struct l1_ended r;
+    size_t i;
+
+    for (i = 0; i < COUNT(all); i++) {
+        change_once(all[i].order, all[i].before, all[i].number, all[i].behind, 0);
+        change_once(all[i].order, all[i].before, all[i].number, all[i].behind, 1);
+    }
+    for (i = 0; i < COUNT(done); i++) {
+        clear();
+        load(done[i].deck, CELLS, STATE, 0);
+        r = run(done[i].deck, CELLS, STATE, ROOM, done[i].count + (done[i].number != 2), 1);
+        expect_ended(done[i].what, r, done[i].number, 0, done[i].count, 0, 0);
+        expect(done[i].what, marks[done[i].cell], drum[done[i].cell], 1, done[i].word);
+        expect(done[i].what, 0, state[0], 0, done[i].location);
+    }
+    clear();
+    load(full, CELLS, STATE, 1);
+    state[1] = state[2] = state[3] = 1;
+    r = run(full, CELLS, STATE, ROOM, 9, 1);
+    expect_ended(what, r, 20, 0, 0, 0, 77);
+    expect_out(what, "X0001500-0005599000-0006600001+0001001001+0000000000-9999999999+0000000000007");
+    r = run(full, CELLS, STATE, ROOM, 9, 1);
+    expect_ended(what, r, 20, 0, 0, 0, 77);
+    expect_out(what, "X0002500-0005599000-0006600001+0001001001+0000000000-9999999999+0000000000007");
+    expect_state(what, left);
+    expect(what, drum[500], drum[600], MINUS + 5599000, 19999999999);
+    what = "a minus order that changes itself as it is stored";
+    set_lone(MINUS + 5499998);
+    state[1] = state[2] = state[3] = 1;
+    r = run(lone, CELLS, STATE, ROOM, 1, 1);
+    expect_ended(what, r, 2, 0, 1, 0, 0);
+    expect(what, state[0], drum[500], 501, MINUS + 5500997);
+}
+
 /* Check 10 before the numbers of the deck, and these before 12, in both calls, with nothing changed. */
 static void refusals(void)
 {
@@ -798,6 +1031,7 @@ int main(void)
     switches();
     losses();
     moves();
+    changes();
     refusals();
     long_refusals();
     makes();
