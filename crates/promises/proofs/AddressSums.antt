@@ -11,7 +11,7 @@ use lib.ListN.{length, length-set}
 use lib.Seq.{getD-set-same, getD-set-other}
 use borrow.Author.Tests.{le-leb, leb-true, eq-eqb}
 use Rattle.rules.specs.Words.{pick, both, signIn, digitsIn, addressIn, withAddress, withDigits, firstDigit, aIn, bIn, cIn}
-use Rattle.rules.specs.Numbers.{mayGoOn}
+use Rattle.rules.specs.Numbers.{completed, mayGoOn}
 use Rattle.rules.specs.Drum.{cellAt, wordAt, isOwned, shown}
 use Rattle.rules.specs.Decks.{judgedFrom}
 use Rattle.rules.specs.Codes.{codes, lookup, codeIn, pchCode, noopCode, checked}
@@ -222,7 +222,8 @@ module _ (i : Inputs) (s t : Bool) (Came : Outcome → Type 0) where
   abbrev by : Bool → Inputs
   by r = inputsWith (i .switches) (record { lossStops = i .requests .lossStops; sumsCarry = r }) i
 
-  module _ (came : (u : Machine) (b : ℕ) (k : Changing) (x : Address) (w c : ℕ) → Came (changed u b (changedWord s k x w c) .outcome)) where
+  module _ (came : (u : Machine) (b : ℕ) (k : Changing) (x : Address) (w c : ℕ) → Came (changed u b (changedWord s k x w c) .outcome))
+      (undone-then : (o : Outcome) → mayGoOn o ≡ false → Came o → completed o ≡ 0) where
     gone-same : (u : Machine) (g : Going) (b c : ℕ) → gone (by t) u g b c ≡ gone (by s) u g b c
     unfolding gone
     gone-same u UncStop b c = refl
@@ -265,9 +266,10 @@ module _ (i : Inputs) (s t : Bool) (Came : Outcome → Type 0) where
         (Came (g s .outcome) → StaysWithin m) → g t ≡ g s)
         m (λ r u h. refl) (λ u w o p. performed-same m u w o p)
 
-    -- ---- runs: at each order done the sum stays, and of the order that ended the run nothing of the kind came
+    -- ---- runs: the sum stays at each order done, and at the one that ended the run, if such an outcome did
     run-same : (k : ℕ) (m : Machine) (n : ℕ) → ((d : ℕ) → n + d < runFrom (by s) k m n .count → StaysWithin (runFrom (by s) d m n .machine))
-        → ((o : Outcome) → mayGoOn o ≡ false → runFrom (by s) k m n .outcome ≡ o → Came o → ⊥)
+        → ((o : Outcome) → mayGoOn o ≡ false → runFrom (by s) k m n .outcome ≡ o → Came o
+        → (d : ℕ) → n + d ≡ runFrom (by s) k m n .count → StaysWithin (runFrom (by s) d m n .machine))
         → runFrom (by t) k m n ≡ runFrom (by s) k m n
     unfolding runFrom
     run-same zero m n h f = refl
@@ -275,7 +277,8 @@ module _ (i : Inputs) (s t : Bool) (Came : Outcome → Type 0) where
       where
         by-step : (v : Bool) → mayGoOn (step (by s) m .outcome) ≡ v
             → (((d : ℕ) → n + 1 + d < runFrom (by s) k (step (by s) m .machine) (n + 1) .count → StaysWithin (runFrom (by s) d (step (by s) m .machine) (n + 1) .machine))
-            → ((o : Outcome) → mayGoOn o ≡ false → runFrom (by s) k (step (by s) m .machine) (n + 1) .outcome ≡ o → Came o → ⊥)
+            → ((o : Outcome) → mayGoOn o ≡ false → runFrom (by s) k (step (by s) m .machine) (n + 1) .outcome ≡ o → Came o
+            → (d : ℕ) → n + 1 + d ≡ runFrom (by s) k (step (by s) m .machine) (n + 1) .count → StaysWithin (runFrom (by s) d (step (by s) m .machine) (n + 1) .machine))
             → runFrom (by t) k (step (by s) m .machine) (n + 1) ≡ runFrom (by s) k (step (by s) m .machine) (n + 1))
             → runFrom (by t) (suc k) m n ≡ runFrom (by s) (suc k) m n
         by-step true u r =
@@ -286,11 +289,16 @@ module _ (i : Inputs) (s t : Bool) (Came : Outcome → Type 0) where
             ∙ ap (λ (x : Answer). runFrom (by t) k (x .machine) (n + 1)) e
             ∙ r
             (λ d l. subst (λ (x : Course). StaysWithin (x .machine)) (run-on (by s) d m n u) (h (suc d) (omega (arith, c, l))))
-            (λ x g p. f x g (ap (λ (x : Course). x .outcome) o ∙ p))
+            (λ x g p z d l.
+            subst (λ (x : Course). StaysWithin (x .machine)) (run-on (by s) d m n u) (f x g (ap (λ (x : Course). x .outcome) o ∙ p) z (suc d) (omega (arith, c, l))))
             ∙ sym o
         by-step false u r =
+            let o = run-ends (by s) k m n u in
             let e : step (by t) m ≡ step (by s) m =
-            step-same m (λ g. absurd (f (step (by s) m .outcome) u (ap (λ (x : Course). x .outcome) (run-ends (by s) k m n u)) g)) in
+            step-same m
+            (λ g.
+            f (step (by s) m .outcome) u (ap (λ (x : Course). x .outcome) o) g 0
+            (omega (arith, ap (λ (x : Course). x .count) o, undone-then (step (by s) m .outcome) u g))) in
             rw (e, u, runFrom, e)
 
 -- ---- calls
@@ -319,6 +327,10 @@ came-by : (s : Bool) (u : Machine) (b : ℕ) (k : Changing) (x : Address) (w c :
 came-by true u b k x w c = came-carried u b k x w c
 came-by false u b k x w c = inl refl
 
+past-undone : (o : Outcome) → mayGoOn o ≡ false → DoneOrPast o → completed o ≡ 0
+past-undone o u (inl g) = false-true (sym u ∙ g)
+past-undone o u (inr g) = ap completed g
+
 pub wraps-as-carries : WrapsAsCarries
 unfolding ranAs
 wraps-as-carries q c =
@@ -326,20 +338,24 @@ wraps-as-carries q c =
     (λ (r : Requests → RunResult).
     ((n : ℕ) → n < r (withoutCarries q) .count → StaysWithin (behind (withoutCarries q) c n)) → r q ≡ r (withoutCarries q)) c (λ b h. refl)
     (λ e h. ap (ranAs c)
-    (run-same (inputsBy q c) false (q .sumsCarry) (λ o. mayGoOn o ≡ true) came-wrapped (c .budget) (begun c) 0 (λ d l. h d (omega (arith, l))) (λ o u p g. false-true (sym u ∙ g))))
+    (run-same (inputsBy q c) false (q .sumsCarry) (λ o. mayGoOn o ≡ true) came-wrapped (λ o u g. false-true (sym u ∙ g)) (c .budget) (begun c) 0 (λ d l. h d (omega (arith, l)))
+    (λ o u p g. false-true (sym u ∙ g))))
 
 pub carries-as-wraps : CarriesAsWraps
 unfolding ranAs
 carries-as-wraps q c =
     of-runs
     (λ (r : Requests → RunResult).
-    ((n : ℕ) → n < r q .count → StaysWithin (behind q c n)) → (r q .ending ≡ Ran (Undone BadAddress) → ⊥) → r q ≡ r (withoutCarries q)) c (λ b h f. refl)
+    ((n : ℕ) → n < r q .count → StaysWithin (behind q c n)) → (r q .ending ≡ Ran (Undone BadAddress) → StaysWithin (behind q c (r q .count))) → r q ≡ r (withoutCarries q))
+    c (λ b h f. refl)
     (λ e h f. ap (ranAs c)
-    (sym (run-same (inputsBy q c) (q .sumsCarry) false DoneOrPast (came-by (q .sumsCarry)) (c .budget) (begun c) 0 (λ d l. h d (omega (arith, l))) (λ o u p g. ended f o u p g))))
+    (sym
+    (run-same (inputsBy q c) (q .sumsCarry) false DoneOrPast (came-by (q .sumsCarry)) past-undone (c .budget) (begun c) 0 (λ d l. h d (omega (arith, l)))
+    (λ o u p g d l. subst (λ (n : ℕ). StaysWithin (behind q c n)) (sym (omega (arith, l))) (f (ap Ran (p ∙ ended o u g)))))))
   where
-    ended : {x : Outcome} → (Ran x ≡ Ran (Undone BadAddress) → ⊥) → (o : Outcome) → mayGoOn o ≡ false → x ≡ o → DoneOrPast o → ⊥
-    ended f o u p (inl g) = false-true (sym u ∙ g)
-    ended f o u p (inr g) = f (ap Ran (p ∙ g))
+    ended : (o : Outcome) → mayGoOn o ≡ false → DoneOrPast o → o ≡ Undone BadAddress
+    ended o u (inl g) = false-true (sym u ∙ g)
+    ended o u (inr g) = g
 
 pub as-the-base : AsTheBase
 as-the-base c e h = on-run-as-before c e ∙ wraps-as-carries (withoutLossStops present) c h

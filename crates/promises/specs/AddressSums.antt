@@ -97,10 +97,12 @@ SumsStay q c = (n : ℕ) → n < ranBy q c .count → StaysWithin (behind q c n)
 abbrev pub WrapsAsCarries : Type 0
 WrapsAsCarries = (q : Requests) (c : RunCall) → SumsStay (withoutCarries q) c → ranBy q c ≡ ranBy (withoutCarries q) c
 
--- So is a run by the rule that carries, unless it ends with 20: then the order that ended it may be one whose sum the ten digits cannot hold.
+-- So is a run by the rule that carries, if the same is so of the order that ended it where it ends with 20: that order may be one whose sum the ten
+-- digits do not hold.
 abbrev pub CarriesAsWraps : Type 0
 CarriesAsWraps =
-    (q : Requests) (c : RunCall) → SumsStay q c → (ranBy q c .ending ≡ Ran (Undone BadAddress) → ⊥) → ranBy q c ≡ ranBy (withoutCarries q) c
+    (q : Requests) (c : RunCall) → SumsStay q c → (ranBy q c .ending ≡ Ran (Undone BadAddress) → StaysWithin (behind q c (ranBy q c .count)))
+    → ranBy q c ≡ ranBy (withoutCarries q) c
 
 -- With the switch on RUN, such a run is the base's own.
 abbrev pub AsTheBase : Type 0
