@@ -6,6 +6,7 @@ use std::io::Write;
 
 use crate::model::calls::{load, run, Run};
 use crate::model::drum::CELLS;
+use crate::model::order::Sums;
 use crate::model::state::{State, NUMBERS};
 use crate::model::stop::Reason;
 
@@ -53,6 +54,7 @@ fn answer(deck: &[u8], choice: Choice) -> Vec<u8> {
         state: &mut numbers,
         budget: choice.budget,
         switch_on_stop: choice.stop,
+        sums: Sums::Carry,
     };
     let ended = run(lent, &mut |_| {});
     if ended.reason.entry().is_some() {

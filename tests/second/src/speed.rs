@@ -5,6 +5,7 @@ use std::time::Instant;
 
 use crate::model::calls::{load, run, Run};
 use crate::model::drum::CELLS;
+use crate::model::order::Sums;
 use crate::model::state::NUMBERS;
 use crate::model::stop::Reason;
 
@@ -34,6 +35,7 @@ pub fn orders(file: &str, mode: &str) -> Option<bool> {
             state: &mut state,
             budget,
             switch_on_stop: false,
+            sums: Sums::Carry,
         };
         right &= run(lent, &mut |_| {}).reason == Reason::BudgetUsed;
         best = best.min(began.elapsed().as_secs_f64());

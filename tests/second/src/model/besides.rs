@@ -17,13 +17,13 @@ pub struct Scene<'a> {
     pub state: &'a State,
 }
 
-fn that_hold<T>(told: Vec<(bool, T)>) -> Vec<T> {
+pub fn that_hold<T>(told: Vec<(bool, T)>) -> Vec<T> {
     told.into_iter().filter(|(holds, _)| *holds).map(|(_, thing)| thing).collect()
 }
 
-const MINUS_ZERO: Word = Word { minus: true, digits: 0 };
+pub const MINUS_ZERO: Word = Word { minus: true, digits: 0 };
 
-fn is_no_number(word: Word) -> bool {
+pub fn is_no_number(word: Word) -> bool {
     word != MINUS_ZERO && word.number().is_none()
 }
 

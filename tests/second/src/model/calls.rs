@@ -4,6 +4,7 @@ use super::deck::{self, Deck};
 use super::drum::Drum;
 use super::event::{Before, Event, Large};
 use super::machine::Machine;
+use super::order::Sums;
 use super::state::State;
 use super::stop::Reason;
 use super::word::Word;
@@ -84,18 +85,29 @@ pub struct Run<'a> {
     pub state: &'a mut [u64],
     pub budget: u64,
     pub switch_on_stop: bool,
+    pub sums: Sums,
 }
 
 /// Does orders until one stops or is refused, or the budget is used.
 pub fn run(lent: Run, witness: &mut dyn FnMut(Event)) -> Ended {
-    let Run { cells, marks, deck, out, state: numbers, budget, switch_on_stop } = lent;
+    let Run { cells, marks, deck, out, state: numbers, budget, switch_on_stop, sums } = lent;
     let (drum, deck, state) = match enter_run(cells, marks, deck, numbers, budget, witness) {
         Ok(entered) => entered,
         Err(Refusal { reason, place }) => {
             return Ended { reason, place, count: 0, shown: Word::PLUS_ZERO, written: 0 };
         }
     };
-    let mut machine = Machine { drum, deck, state, switch_on_stop, out, written: 0, witness };
+    let mut machine = Machine {
+        drum,
+        deck,
+        state,
+        switch_on_stop,
+        sums,
+        out,
+        written: 0,
+        recoded: None,
+        witness,
+    };
     let (count, reason, shown) = orders(&mut machine, budget);
     let written = machine.written as u64;
     numbers.copy_from_slice(&machine.state.numbers());
@@ -133,16 +145,21 @@ fn enter_run<'a>(
 fn orders(machine: &mut Machine, budget: u64) -> (u64, Reason, Word) {
     let mut count = 0;
     while count < budget {
+        let (last, traced) = (count + 1 == budget, machine.state.traced_mode());
         match machine.step() {
             Ok(None) => count += 1,
             Ok(Some((reason, word))) => {
                 if reason == Reason::DigitsLost {
-                    let (last, traced) = (count + 1 == budget, machine.state.traced_mode());
                     (machine.witness)(Event::StoppedForLoss { last, traced });
                 }
                 return (count + 1, reason, word);
             }
-            Err(reason) => return (count, reason, Word::PLUS_ZERO),
+            Err(reason) => {
+                if let Reason::DigitsPast(_) = reason {
+                    (machine.witness)(Event::DigitsRefused { last, traced });
+                }
+                return (count, reason, Word::PLUS_ZERO);
+            }
         }
     }
     (machine.witness)(Event::BudgetUsed { zero: budget == 0 });

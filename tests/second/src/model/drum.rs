@@ -52,6 +52,11 @@ impl<'a> Drum<'a> {
         self.word(cell).unwrap_or(Word::PLUS_ZERO)
     }
 
+    /// The word that lies in a cell, marked or not. No rule may ask for it.
+    pub fn lying(&self, cell: u64) -> Option<Word> {
+        Word::of_cell(self.cells[cell as usize])
+    }
+
     pub fn store(&mut self, cell: u64, word: Word) {
         self.cells[cell as usize] = word.cell();
         self.marks[cell as usize] = 1;

@@ -1,7 +1,7 @@
 //! What a witness of the model is told, for counting what was covered.
 
 use super::operation::OfTwo;
-use super::order::Code;
+use super::order::{Change, Code};
 use super::stop::{Field, Reason};
 
 /// Where control goes after an order.
@@ -170,6 +170,44 @@ pub enum Test {
     At999,
 }
 
+/// What ADD or SUB of an address has about it that is done, or refused for the ten digits.
+#[derive(Clone, Copy, Debug, PartialEq, Eq, PartialOrd, Ord)]
+pub enum Sum {
+    /// It is done, and changes so many parts before the address: addresses, and O1 before A.
+    Carried {
+        parts: u64,
+        minus: bool,
+    },
+    /// It is done by a C other than 000, and leaves 9999999999 or ten zeros.
+    AtEnd {
+        minus: bool,
+    },
+    Refused {
+        minus: bool,
+    },
+    C000,
+    C999,
+    /// B is the order's own cell. `within`: address and C stay in 000 to 999.
+    OwnCell {
+        within: bool,
+    },
+    /// B is the next order, and its O1 becomes another.
+    NextCode,
+    /// The word at B is a number; neither that nor minus zero.
+    Number,
+    NoNumber,
+    /// It is minus zero, and C is not 000.
+    MinusZero,
+    /// The order is at 999, or B is 999.
+    At999,
+    Cell999,
+    /// The loop box has made the order's B, or its C.
+    BoxB,
+    BoxC,
+    /// The word at B is minus, and the loop box has a count for the named address.
+    LiveBox,
+}
+
 #[derive(Clone, Copy, Debug, PartialEq, Eq, PartialOrd, Ord)]
 pub enum Event {
     Loaded {
@@ -249,6 +287,28 @@ pub enum Event {
         field: Field,
         equal: bool,
         test: Test,
+    },
+    /// Told besides.
+    Summed {
+        change: Change,
+        field: Field,
+        done: bool,
+        sum: Sum,
+    },
+    /// Told besides, of each ADD and SUB of an address with a word at B: address and C stay in 000 to
+    /// 999, or not.
+    SumWithin(bool),
+    /// Told besides, of one with an unmarked B: 20 would be told of what lies there.
+    SumUntold {
+        change: Change,
+        field: Field,
+    },
+    /// Told besides, of an order that is done behind one that changed its O1 so.
+    DoneAsCarried(Change),
+    /// Told besides, of 20 for the ten digits; `last`: by the last order of the budget.
+    DigitsRefused {
+        last: bool,
+        traced: bool,
     },
     /// Told besides.
     Large(Large),

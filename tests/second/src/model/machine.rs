@@ -4,12 +4,13 @@ use super::arithmetic::{lost, OutOfRange};
 use super::besides::{of_move, of_refused_move, of_test, Scene};
 use super::deck::Deck;
 use super::drum::Drum;
-use super::event::{Event, Large, Loss, Tracing, Way};
+use super::event::{Event, Large, Loss, Sum, Tracing, Way};
 use super::operation::lost_below;
-use super::order::{code, Code, Order};
+use super::order::{code, Change, Code, Order, Sums};
 use super::orders::{plan, Effects, View};
 use super::state::State;
 use super::stop::Reason;
+use super::sums::of_sum;
 use super::trace::{next_counter, trace_card};
 use super::word::Word;
 
@@ -18,8 +19,11 @@ pub struct Machine<'a> {
     pub deck: Deck,
     pub state: State,
     pub switch_on_stop: bool,
+    pub sums: Sums,
     pub out: &'a mut [u8],
     pub written: usize,
+    /// How the order before changed O1 of the next one, if it did; only told.
+    pub recoded: Option<Change>,
     pub witness: &'a mut dyn FnMut(Event),
 }
 
@@ -30,7 +34,7 @@ impl Machine<'_> {
     /// Does the order at the location, or says why not. The checks come in the paper's order; of a
     /// refused order only its trace card and that card's number remain.
     pub fn step(&mut self) -> Result<Stop, Reason> {
-        let tracing = self.tracing();
+        let (tracing, recoded) = (self.tracing(), self.recoded.take());
         let (stored, order, code) = match self.fetch() {
             Ok(fetched) => fetched,
             Err(reason) => {
@@ -44,10 +48,12 @@ impl Machine<'_> {
             state: &self.state,
             deck: &self.deck,
             switch_on_stop: self.switch_on_stop,
+            sums: self.sums,
             room: self.out.len() - self.written,
         };
         let planned = plan(code, order, &view);
         self.tell_of_loss(code, order, &planned, tracing);
+        self.tell_of_address_sum(code, Order::of_word(stored), order, &planned);
         match planned {
             Ok(effects) => {
                 let (way, stop) = (effects.way, effects.stop);
@@ -62,6 +68,9 @@ impl Machine<'_> {
                     tracing,
                     modified,
                 });
+                if let Some(change) = recoded {
+                    (self.witness)(Event::DoneAsCarried(change));
+                }
                 Ok(stop)
             }
             Err(reason) => {
@@ -100,6 +109,28 @@ impl Machine<'_> {
                 }
             }
             _ => {}
+        }
+    }
+
+    /// What ADD or SUB of an address has about it that is about to be done, or is refused.
+    fn tell_of_address_sum(
+        &mut self,
+        code: Code,
+        stored: Order,
+        order: Order,
+        planned: &Result<Effects, Reason>,
+    ) {
+        let Code::Change(change @ (Change::Add | Change::Sub), field) = code else { return };
+        if order.b == 0 {
+            return;
+        }
+        let scene = Scene { stored, order, drum: &self.drum, state: &self.state };
+        let after = planned.as_ref().ok().map(|effects| effects.stores[0].1);
+        for event in of_sum(change, field, &scene, after) {
+            if let Event::Summed { sum: Sum::NextCode, .. } = event {
+                self.recoded = Some(change);
+            }
+            (self.witness)(event);
         }
     }
 

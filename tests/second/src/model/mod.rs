@@ -16,6 +16,7 @@ pub mod order;
 pub mod orders;
 pub mod state;
 pub mod stop;
+pub mod sums;
 pub mod trace;
 pub mod word;
 

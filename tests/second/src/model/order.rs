@@ -68,6 +68,36 @@ pub enum Change {
     Sub,
 }
 
+impl Change {
+    /// C as it is added.
+    pub fn constant(self, c: u64) -> i64 {
+        if self == Change::Sub {
+            -(c as i64)
+        } else {
+            c as i64
+        }
+    }
+}
+
+/// What an address sum does that passes 999 or falls below 000.
+#[derive(Clone, Copy, Debug, Default, PartialEq, Eq)]
+pub enum Sums {
+    /// It goes on in the digits before the address (W-205).
+    #[default]
+    Carry,
+    /// It stays in the address, modulo 1000: the rule before W-205.
+    Wrap,
+}
+
+/// What one in an address is worth among the ten digits.
+pub fn worth(field: Field) -> u64 {
+    match field {
+        Field::A => 1_000_000,
+        Field::B => 1_000,
+        Field::C => 1,
+    }
+}
+
 /// The orders that are built.
 #[derive(Clone, Copy, Debug, PartialEq, Eq, PartialOrd, Ord)]
 pub enum Code {

@@ -33,7 +33,7 @@ impl Turn {
     }
 }
 
-/// By how much the end of a block is past 999.
+/// By how much the end of a block is past 999, or ten digits are past 9999999999 or below 0.
 #[derive(Clone, Copy, Debug, PartialEq, Eq, PartialOrd, Ord)]
 pub enum Past {
     ByOne,
@@ -138,6 +138,8 @@ pub enum Reason {
     TestOf000,
     ChangeOf000,
     SubroutineAt000,
+    /// An address sum would take the ten digits past 9999999999, or below 0.
+    DigitsPast(Past),
     OrderUnmarked,
     Unmarked(Field),
     BlockUnmarked,
@@ -172,7 +174,7 @@ impl Reason {
             FirstOrder000 | FirstOrderAbove999 => 12,
             Location000 | LocationPast999 | SumAbove999(_) => 20,
             BlockFrom000 | BlockBackward | ChangeOf000 | SubroutineAt000 => 20,
-            BlockTo000 | BlockPast999(..) | TestOf000 => 20,
+            BlockTo000 | BlockPast999(..) | TestOf000 | DigitsPast(_) => 20,
             OrderUnmarked | Unmarked(_) | BlockUnmarked | SourceUnmarked(_) => 21,
             NoRoomForTrace | NoRoomForPunch | NoRoomForDeck => 22,
             NotBuilt => 23,

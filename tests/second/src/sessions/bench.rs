@@ -8,6 +8,7 @@ use crate::model::deck::check;
 use crate::model::drum::Drum;
 use crate::model::event::Event;
 use crate::model::making::make;
+use crate::model::order::Sums;
 use crate::model::state::{State, NAMES};
 use crate::model::stop::{Entry, Reason};
 
@@ -29,9 +30,11 @@ pub struct Bench {
     made: Vec<u8>,
     /// The state is the one that a stop for lost digits has left.
     behind_loss: bool,
+    sums: Sums,
 }
 
 /// What a call gave.
+#[derive(PartialEq)]
 pub enum Outcome {
     Load(Result<(), Refusal>),
     Run { ended: Ended, out: Vec<u8> },
@@ -69,13 +72,24 @@ impl Outcome {
 }
 
 impl Bench {
+    /// The same bench, on which address sums follow this rule.
+    pub fn by(&self, sums: Sums) -> Bench {
+        Bench { sums, ..self.clone() }
+    }
+
+    /// Whether drum, marks and state are the same.
+    pub fn lies_as(&self, other: &Bench) -> bool {
+        let Bench { cells, marks, state, .. } = self;
+        (cells, marks, state) == (&other.cells, &other.marks, &other.state)
+    }
+
     /// Does what a message asks; the outcome if it is a call.
     pub fn feed(&mut self, message: &Message, witness: &mut dyn FnMut(Event)) -> Option<Outcome> {
         match message {
             Message::Begin(begin) => {
                 let (cells, marks) = (begin.cells.all(), begin.marks.all());
                 let (state, made) = (begin.state.clone(), std::mem::take(&mut self.made));
-                *self = Bench { cells, marks, deck: Vec::new(), state, made, behind_loss: false };
+                *self = Bench { cells, marks, state, made, sums: self.sums, ..Bench::default() };
                 None
             }
             Message::Deck(deck) => {
@@ -117,8 +131,16 @@ impl Bench {
         witness: &mut dyn FnMut(Event),
     ) -> Outcome {
         let mut out = vec![UNTOUCHED; room as usize];
-        let Bench { cells, marks, deck, state, .. } = self;
-        let lent = Run { cells, marks, deck, out: &mut out, state, budget, switch_on_stop: stop };
+        let lent = Run {
+            cells: &mut self.cells,
+            marks: &mut self.marks,
+            deck: &self.deck,
+            out: &mut out,
+            state: &mut self.state,
+            budget,
+            switch_on_stop: stop,
+            sums: self.sums,
+        };
         let ended = run(lent, witness);
         if self.behind_loss && ended.count > 0 {
             let state = State::of_numbers(&self.state).expect("the state of a run");

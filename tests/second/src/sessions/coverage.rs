@@ -1,11 +1,11 @@
 //! What the sessions covered, told by order and by stop number.
 
-use std::collections::BTreeMap;
+use std::collections::{BTreeMap, BTreeSet};
 
 use super::draw::codes;
 use super::makes::{self, Seen};
 use super::reach;
-use crate::model::event::{Event, Moved, Test, Way};
+use crate::model::event::{Event, Moved, Sum, Test, Way};
 use crate::model::order::{Built, Code, Second, BUILT};
 use crate::model::stop::Reason;
 use crate::verdict::{often_enough, Verdict};
@@ -63,6 +63,7 @@ impl Coverage {
         }
         self.tell_moves();
         self.tell_tests();
+        self.tell_sums();
         for large in reach::LARGE {
             println!("covered: {large:?}: {}", self.times(|event| event == Event::Large(large)));
         }
@@ -104,6 +105,32 @@ impl Coverage {
             })
         });
         println!("covered: Tested(OnlyNamed): equal {only}; Tested(Other): unequal {other}");
+    }
+
+    /// Address sums by what they have about them, for ADD and for SUB of all addresses together.
+    fn tell_sums(&self) {
+        let mut listed: BTreeSet<(bool, Sum)> = BTreeSet::new();
+        for event in reach::of_address_sums() {
+            match event {
+                Event::Summed { done, sum, .. } => {
+                    listed.insert((done, sum));
+                }
+                _ => println!("covered: {event:?}: {}", self.times(|other| other == event)),
+            }
+        }
+        for wanted in listed {
+            let [add, sub] = reach::SUMS.map(|kind| {
+                self.times(|event| match event {
+                    Event::Summed { change, done, sum, .. } => {
+                        change == kind && (done, sum) == wanted
+                    }
+                    _ => false,
+                })
+            });
+            let (done, sum) = wanted;
+            let end = if done { "done" } else { "refused" };
+            println!("covered: Summed({sum:?}), {end}: ADD {add}, SUB {sub}");
+        }
     }
 
     /// Requires all that sessions drawn by chance can come to.

@@ -1,9 +1,10 @@
 //! The judge of the answers to whole sessions.
 
-use super::bench::{told, Bench, Call};
+use super::bench::{told, Bench, Call, Outcome};
 use super::coverage::Coverage;
 use super::makes;
 use super::message::Message;
+use super::rules::Rules;
 use super::{twin_of, Stream};
 use crate::files::Reading;
 use crate::verdict::Verdict;
@@ -33,13 +34,17 @@ pub fn judge(stream: Stream, seed: u64, count: u64, path: &str) -> bool {
     let mut answers = Reading::open(path);
     let mut verdict = Verdict::new();
     let mut coverage = Coverage::default();
+    let mut rules = Rules::default();
     let (mut twins, mut calls) = (0u64, 0u64);
     for index in 0..count {
         let first = stream.session(seed, index);
         let second = twin_of(&first, seed, index);
-        let both = answered(&first, &mut answers, &mut coverage).and_then(|one| {
-            Some((one, answered(&second, &mut answers, &mut Coverage::default())?))
-        });
+        let watched = |bench: &mut Bench, asked: &Message| {
+            rules.feed(bench, asked, &mut |event| coverage.saw(event))
+        };
+        let unwatched = |bench: &mut Bench, asked: &Message| bench.feed(asked, &mut |_| {});
+        let both = answered(&first, &mut answers, watched)
+            .and_then(|one| Some((one, answered(&second, &mut answers, unwatched)?)));
         let Some((one, other)) = both else {
             verdict
                 .difference(|| format!("session {index}: the answers end within it or its twin"));
@@ -48,6 +53,11 @@ pub fn judge(stream: Stream, seed: u64, count: u64, path: &str) -> bool {
         compare(&format!("session {index}"), &one, &first, &mut verdict);
         compare(&format!("twin of session {index}"), &other, &second, &mut verdict);
         compare_twins(index, &one, &other, &mut verdict);
+        if rules.broken() {
+            verdict.difference(|| {
+                format!("session {index}: by the old rule a run is other in which no sum carries")
+            });
+        }
         if let Stream::Makes = stream {
             makes::seen(&first, one[0].due[0] == 0, &mut |seen| coverage.saw_making(seen));
             for (name, session, calls) in [("", &first, &one), ("twin of ", &second, &other)] {
@@ -56,6 +66,11 @@ pub fn judge(stream: Stream, seed: u64, count: u64, path: &str) -> bool {
                         format!("{name}session {index}: the deck does not bring its drum back")
                     });
                 }
+            }
+        }
+        for Answered { call, due, .. } in &one {
+            if *call == Call::Run || *call == Call::Load && due[0] != 0 {
+                coverage.ended(due[0]);
             }
         }
         twins += 1;
@@ -67,8 +82,12 @@ pub fn judge(stream: Stream, seed: u64, count: u64, path: &str) -> bool {
         _ => coverage.tell(),
     }
     println!("covered: {calls} calls, {twins} twins");
+    rules.tell();
     match stream {
-        Stream::Drawn => coverage.require_all(count, &mut verdict),
+        Stream::Drawn => {
+            coverage.require_all(count, &mut verdict);
+            rules.require(count, &mut verdict);
+        }
         Stream::Codes => coverage.require_codes(&mut verdict),
         Stream::Makes => coverage.require_makings(count, &mut verdict),
     }
@@ -79,17 +98,13 @@ pub fn judge(stream: Stream, seed: u64, count: u64, path: &str) -> bool {
 fn answered(
     session: &[Message],
     answers: &mut Reading,
-    coverage: &mut Coverage,
+    mut feed: impl FnMut(&mut Bench, &Message) -> Option<Outcome>,
 ) -> Option<Vec<Answered>> {
     let mut bench = Bench::default();
     let mut all = Vec::new();
     for (message, asked) in session.iter().enumerate() {
-        let Some(outcome) = bench.feed(asked, &mut |event| coverage.saw(event)) else { continue };
-        let due = bench.answer(&outcome);
-        let call = outcome.call();
-        if call == Call::Run || call == Call::Load && due[0] != 0 {
-            coverage.ended(due[0]);
-        }
+        let Some(outcome) = feed(&mut bench, asked) else { continue };
+        let (due, call) = (bench.answer(&outcome), outcome.call());
         let got = answers.many(due.len() as u64)?;
         all.push(Answered { message, call, due, got });
     }

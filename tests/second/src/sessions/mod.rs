@@ -8,6 +8,7 @@ mod judge;
 mod makes;
 mod message;
 mod reach;
+mod rules;
 mod twin;
 
 use crate::chance::Chance;

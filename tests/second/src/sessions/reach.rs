@@ -4,10 +4,10 @@ use crate::model::arithmetic::OutOfRange;
 use crate::model::card::CardFault;
 use crate::model::deck::Fault;
 use crate::model::event::{
-    Before, Event, Large, Lie, Loss, Moved, Owned, Test, Tracing, Way, SHORT,
+    Before, Event, Large, Lie, Loss, Moved, Owned, Sum, Test, Tracing, Way, SHORT,
 };
 use crate::model::operation::{OfOne, OfTwo};
-use crate::model::order::{Code, Second, BUILT};
+use crate::model::order::{Change, Code, Second, BUILT};
 use crate::model::stop::{Above, Astray, Field, Hole, Length, Mark, Past, Reason, Turn, FIELDS};
 
 pub const TRACINGS: [Tracing; 3] = [Tracing::Plain, Tracing::Off, Tracing::On];
@@ -54,7 +54,10 @@ fn refusals(code: Code) -> Vec<Reason> {
         }
         Code::TrAddress(_) => vec![TestOf000, Unmarked(Field::A)],
         Code::TrSubr => vec![SubroutineAt000, Unmarked(Field::C)],
-        Code::Change(..) => vec![ChangeOf000, Unmarked(Field::B)],
+        Code::Change(Change::Set, _) => vec![ChangeOf000, Unmarked(Field::B)],
+        Code::Change(..) => {
+            vec![ChangeOf000, Unmarked(Field::B), DigitsPast(Past::ByOne), DigitsPast(Past::Far)]
+        }
         Code::Pch => vec![BlockFrom000, BlockBackward, BlockUnmarked, NoRoomForPunch],
         Code::Read => {
             let mut reasons = vec![BlockFrom000, BlockBackward];
@@ -102,6 +105,7 @@ pub fn of_orders() -> Vec<Event> {
     events.extend(losses());
     events.extend(of_moves());
     events.extend(of_tests());
+    events.extend(of_address_sums());
     events
 }
 
@@ -214,6 +218,54 @@ pub fn of_tests() -> Vec<Event> {
         }
     }
     events
+}
+
+pub const SUMS: [Change; 2] = [Change::Add, Change::Sub];
+
+/// What ADD and SUB of an address come to. Probes that want cell 999 are far apart, as for block moves.
+pub fn of_address_sums() -> Vec<Event> {
+    let mut events = vec![Event::SumWithin(true), Event::SumWithin(false)];
+    for change in SUMS {
+        for field in FIELDS {
+            let sums = sums_of(change, field);
+            let summed = |(done, sum)| Event::Summed { change, field, done, sum };
+            events.extend(sums.into_iter().map(summed));
+            events.push(Event::SumUntold { change, field });
+        }
+        events.push(Event::DoneAsCarried(change));
+    }
+    for traced in [false, true] {
+        events.extend([false, true].map(|last| Event::DigitsRefused { last, traced }));
+    }
+    events
+}
+
+/// Done or not, and what the sum has about it.
+fn sums_of(change: Change, field: Field) -> Vec<(bool, Sum)> {
+    let adds = change == Change::Add;
+    let mut sums = vec![(true, Sum::At999)];
+    for minus in [false, true] {
+        sums.extend((0..=field as u64 + 1).map(|parts| (true, Sum::Carried { parts, minus })));
+        sums.push((true, Sum::AtEnd { minus }));
+    }
+    sums.extend([(false, Sum::At999), (true, Sum::C000)]);
+    sums.extend([false, true].map(|minus| (false, Sum::Refused { minus })));
+    sums.extend([true, false].map(|done| (done, Sum::C999)));
+    sums.extend([(true, Sum::Number), (true, Sum::Cell999), (true, Sum::NoNumber)]);
+    // Minus zero can only be added to.
+    sums.extend([(adds, Sum::MinusZero), (true, Sum::NextCode)]);
+    sums.extend([true, false].map(|done| (done, Sum::LiveBox)));
+    sums.extend([(true, Sum::OwnCell { within: true }), (false, Sum::Cell999)]);
+    // The O1 of these orders is 0: it has nothing to lend, and nothing passes 9.
+    if adds || field != Field::A {
+        sums.push((true, Sum::OwnCell { within: false }));
+    }
+    if !adds {
+        sums.push((false, Sum::OwnCell { within: false }));
+    }
+    sums.extend([true, false].map(|done| (done, Sum::BoxB)));
+    sums.extend([true, false].map(|done| (done, Sum::BoxC)));
+    sums
 }
 
 pub const FAULTS: [Fault; 10] = [

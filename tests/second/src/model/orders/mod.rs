@@ -1,7 +1,7 @@
 //! What each order does. A plan looks at the machine and changes nothing: it gives either all
 //! effects of the order, or the reason of its refusal. So a refused order is undone by itself.
 
-mod address;
+pub mod address;
 pub mod block_move;
 mod cards;
 mod mathematical;
@@ -11,7 +11,7 @@ mod transfer;
 use super::deck::Deck;
 use super::drum::Drum;
 use super::event::Way;
-use super::order::{Code, Order};
+use super::order::{Code, Order, Sums};
 use super::state::State;
 use super::stop::{Field, Reason};
 use super::word::Word;
@@ -23,6 +23,7 @@ pub struct View<'a> {
     pub deck: &'a Deck,
     /// The PROGRAMMED STOP switch is on STOP.
     pub switch_on_stop: bool,
+    pub sums: Sums,
     /// Bytes of output left.
     pub room: usize,
 }

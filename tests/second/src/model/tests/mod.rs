@@ -1,5 +1,6 @@
 //! Worked sessions on the model.
 
+mod carries;
 mod compare;
 mod entry;
 mod loss;
@@ -10,6 +11,7 @@ mod paper;
 mod tracing;
 
 use super::calls::{load, run, Ended, Refusal, Run};
+use super::order::Sums;
 use super::state::{State, NUMBERS};
 use super::word::Word;
 
@@ -22,6 +24,7 @@ struct Job {
     /// How many numbers are lent as the state.
     numbers: usize,
     out: Vec<u8>,
+    sums: Sums,
 }
 
 /// What a job's state is at first.
@@ -41,6 +44,7 @@ impl Job {
             state: START,
             numbers: NUMBERS,
             out: vec![b'.'; 400],
+            sums: Sums::Carry,
         };
         job.put(0, "+0000000000");
         job
@@ -116,6 +120,7 @@ impl Job {
             state: &mut state,
             budget,
             switch_on_stop,
+            sums: self.sums,
         };
         let ended = run(lent, &mut |_| {});
         self.took_back(state);

@@ -90,11 +90,11 @@ fn address_orders() {
     assert_eq!(changed("+0500300007"), "-9007003789");
     assert_eq!(changed("+0050300007"), "-9123007789");
     assert_eq!(changed("+0005300007"), "-9123003007");
-    assert_eq!(changed("+0600300999"), "-9122003789");
+    assert_eq!(changed("+0600300876"), "-9999003789");
     assert_eq!(changed("+0060300005"), "-9123008789");
-    assert_eq!(changed("+0006300300"), "-9123003089");
-    assert_eq!(changed("+0700300124"), "-9999003789");
-    assert_eq!(changed("+0070300005"), "-9123998789");
+    assert_eq!(changed("+0006300300"), "-9123004089");
+    assert_eq!(changed("+0700300124"), "-8999003789");
+    assert_eq!(changed("+0070300005"), "-9122998789");
     assert_eq!(changed("+0007300789"), "-9123003000");
     assert_eq!(one(&mut Job::new().with(101, &["+0500000007"])), (20, 0));
     assert_eq!(one(&mut Job::new().with(101, &["+0500300007"])), (21, 0));

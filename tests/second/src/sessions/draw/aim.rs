@@ -1,6 +1,7 @@
 //! Orders that should come to a given event, with the cells and cards that it takes.
 
 use super::block;
+use super::carries;
 use super::compare;
 use super::draft::Draft;
 use super::loss;
@@ -12,7 +13,7 @@ use crate::chance::Chance;
 use crate::decks::build::any_word;
 use crate::model::event::{Event, Tracing, Way};
 use crate::model::operation::{OfOne, OfTwo};
-use crate::model::order::{Code, Order};
+use crate::model::order::{Change, Code, Order};
 use crate::model::stop::{Field, Reason};
 use crate::model::word::{Word, MINUS};
 use crate::numbers::{any_number, operands_for};
@@ -76,6 +77,13 @@ pub fn aim(event: Event, draft: &mut Draft, chance: &mut Chance) -> Aimed {
         Event::Tested { field, equal, test } => {
             compare::aim(field, equal, Some(test), draft, chance)
         }
+        Event::Summed { change, field, done, sum } => {
+            carries::aim(change, field, done, sum, draft, chance)
+        }
+        Event::SumWithin(_)
+        | Event::SumUntold { .. }
+        | Event::DoneAsCarried(_)
+        | Event::DigitsRefused { .. } => carries::besides(event, draft, chance),
         Event::Completed { code, way, stopped, tracing, .. } => {
             completed(code, way, stopped, tracing != Tracing::Plain, draft, chance)
         }
@@ -145,10 +153,11 @@ fn completed(
             let c = marked(any_word(chance), draft, chance);
             Aimed::of(built(code, 0, any_address(chance), c))
         }
-        Code::Change(..) => {
+        Code::Change(Change::Set, _) => {
             let b = marked(any_word(chance), draft, chance);
             Aimed::of(built(code, 0, b, any_address(chance)))
         }
+        Code::Change(change, field) => carries::done(change, field, draft, chance),
         Code::Pch if !traced => block::punched(draft, chance),
         Code::Read => block::read(None, draft, chance),
         _ => Aimed::of(built(code, 0, any_address(chance), any_address(chance))),
@@ -233,6 +242,9 @@ fn refused(code: Code, reason: Reason, draft: &mut Draft, chance: &mut Chance) -
         (Code::TrAddress(field), _) => compare::refused(field, reason, draft, chance),
         (Code::Pch, _) => block::not_punched(reason, draft, chance),
         (Code::Read, _) => block::read(Some(reason), draft, chance),
+        (Code::Change(change, field), Reason::DigitsPast(past)) => {
+            carries::refused(change, field, past, draft, chance)
+        }
         (_, Reason::ChangeOf000) => Aimed::of(built(code, 0, 0, any_address(chance))),
         _ => {
             let b = unmarked(draft, chance);

@@ -84,7 +84,7 @@ fn other_than(named: u64, tested: &Order, chance: &mut Chance) -> u64 {
 }
 
 /// The box has so high a count for the named address. It makes the order too, where it can.
-fn with_live_box(field: Field, count: u64, aimed: Aimed, chance: &mut Chance) -> Aimed {
+pub fn with_live_box(field: Field, count: u64, aimed: Aimed, chance: &mut Chance) -> Aimed {
     let mut counts = [0; 3].map(|_| chance.pick(&[0, 0, 1, 999]));
     counts[field as usize] = count;
     let modified = before(aimed.order, counts).is_some() && chance.percent(70);

@@ -1,7 +1,7 @@
 //! Cells at the ends of the drum, kept for the probes that must lie there.
 
 use super::draft::Draft;
-use crate::model::event::{Event, Loss, Moved, Test};
+use crate::model::event::{Event, Loss, Moved, Sum, Test};
 use crate::model::stop::{Field, Reason};
 
 /// So many cells are kept at an end.
@@ -20,6 +20,7 @@ fn wanted(event: Event) -> Option<End> {
         Event::Moved(Moved::SourceTo999 | Moved::DestinationTo999)
         | Event::MoveRefused { reason: Reason::BlockPast999(Field::B, _), unmarked: false }
         | Event::Tested { test: Test::At999, .. }
+        | Event::Summed { sum: Sum::At999 | Sum::Cell999, .. }
         | Event::Lost { loss: Loss::At999, .. } => Some(End::Last),
         _ => None,
     }

@@ -2,6 +2,7 @@
 
 mod aim;
 mod block;
+mod carries;
 pub mod codes;
 mod compare;
 mod draft;

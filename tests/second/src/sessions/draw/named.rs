@@ -1,5 +1,5 @@
-//! The sessions that begin every stream: the paper's own, its blunders, the largest of all, and what
-//! the newsletter shows of block moves and address tests.
+//! The sessions that begin every stream: the paper's own, its blunders, the largest of all, what the
+//! newsletter shows of block moves and address tests, and address sums that carry.
 
 use super::draft::Draft;
 use crate::chance::Chance;
@@ -30,6 +30,7 @@ pub fn session(index: u64, chance: &mut Chance) -> Option<Vec<Message>> {
         9 => empty_run(&mut draft, chance),
         10 => newsletters_move_and_test(&mut draft, chance),
         11 => newsletters_summation(&mut draft, chance),
+        12 => address_sums(&mut draft, chance),
         _ => return None,
     }
     Some(draft.finish())
@@ -196,4 +197,21 @@ fn newsletters_summation(draft: &mut Draft, chance: &mut Chance) {
     draft.run(0, 999, 0);
     draft.set_state(State { location: 101, reader: 7, mode: 1, tracing: 1, ..State::default() });
     draft.run(8_000, 999, 0);
+}
+
+/// From 999 to 1000 and back in each address, into O1 and out of it, up to the ends of the ten digits
+/// and past them. What is refused is left out.
+fn address_sums(draft: &mut Draft, chance: &mut Chance) {
+    put(draft, 101, &["+0006300001", "+0007300001", "+0060301001", "+0070301001", "+0600302001"]);
+    put(draft, 106, &["+0700302001", "+0006303001", "+0006303001", "+0007304001", "+0007304001"]);
+    put(draft, 300, &["+1234567999", "-1234999890", "-1999567890", "-9999999998", "-0000000001"]);
+    draft.begin(State::default(), chance);
+    draft.deck("T101000");
+    for tracing in [0, 1] {
+        for location in 101..=110 {
+            let state = State { location, reader: 7, mode: tracing, tracing, ..State::default() };
+            draft.set_state(state);
+            draft.run(100, 1, 0);
+        }
+    }
 }

@@ -89,14 +89,20 @@ fn laid_out(event: Event, draft: &mut Draft, chance: &mut Chance) -> Probe {
         Event::OrderRefused { tracing, .. }
         | Event::Refused { tracing, .. }
         | Event::Lost { tracing, .. } => (tracing, chance.one_in(4)),
-        Event::StoppedForLoss { traced, .. } | Event::WentOnBehindLoss { traced } => {
+        Event::StoppedForLoss { traced, .. }
+        | Event::WentOnBehindLoss { traced }
+        | Event::DigitsRefused { traced, .. } => {
             let tracing = if traced { chance.pick(&TRACINGS[1..]) } else { Tracing::Plain };
             (tracing, chance.one_in(4))
         }
         Event::Moved(Moved::ShowsA { .. }) => (Tracing::On, chance.one_in(4)),
-        Event::Moved(_) | Event::MoveRefused { .. } | Event::Tested { .. } => {
-            (chance.pick(&TRACINGS), chance.one_in(4))
-        }
+        Event::Moved(_)
+        | Event::MoveRefused { .. }
+        | Event::Tested { .. }
+        | Event::Summed { .. }
+        | Event::SumWithin(_)
+        | Event::SumUntold { .. }
+        | Event::DoneAsCarried(_) => (chance.pick(&TRACINGS), chance.one_in(4)),
         Event::SumRefused { .. } => (chance.pick(&TRACINGS), false),
         _ => panic!("a probe is aimed at what an order comes to"),
     };

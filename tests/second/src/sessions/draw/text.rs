@@ -5,7 +5,7 @@ use super::parts::built;
 use crate::chance::Chance;
 use crate::model::operation::{OfOne, OfTwo};
 use crate::model::order::{Change, Code, Order};
-use crate::model::stop::Field;
+use crate::model::stop::{Field, FIELDS};
 
 pub struct Text {
     start: u64,
@@ -26,7 +26,7 @@ impl Text {
     }
 
     fn part(&mut self, layout: &Layout, chance: &mut Chance) {
-        match chance.below(14) {
+        match chance.below(15) {
             0 => self.loop_over_numbers(layout, chance),
             1 => self.loop_that_copies(layout, chance),
             2 => self.loop_that_changes_an_order(layout, chance),
@@ -40,6 +40,7 @@ impl Text {
             10 => self.move_a_block(layout, chance),
             11 => self.move_more_and_more(layout, chance),
             12 => self.loop_until_an_address(layout, chance),
+            13 => self.carry_and_borrow(layout, chance),
             _ => self.straight(layout, chance),
         }
     }
@@ -206,6 +207,19 @@ impl Text {
         self.push(Code::OfTwo(OfTwo::Add), layout.numbers, layout.numbers + 1, layout.inbox);
         self.push(Code::Change(Change::Add, field), 0, changed, 1);
         self.push(Code::TrAddress(field), changed, start + count, changed);
+    }
+
+    /// What is added to an address is taken from it again, all at once or in two steps.
+    fn carry_and_borrow(&mut self, layout: &Layout, chance: &mut Chance) {
+        let changed =
+            if chance.percent(50) { layout.stranger(chance) } else { layout.number(chance) };
+        let field = chance.pick(&FIELDS);
+        let [add, sub] = [Change::Add, Change::Sub].map(|change| Code::Change(change, field));
+        let c = chance.between(2, 999);
+        let step = chance.pick(&[0, 1, c / 2]);
+        self.push(add, 0, changed, c);
+        self.push(sub, 0, changed, c - step);
+        self.push(sub, 0, changed, step);
     }
 
     fn stop_and_go(&mut self, layout: &Layout, chance: &mut Chance) {
