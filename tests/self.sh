@@ -7,6 +7,7 @@ cd "$(dirname "$0")/.." || exit 2
 . tests/recorded.sh
 . tests/checks.sh
 seed=1 tried=0 blind=0
+rm -f "$made"/self-*.cases
 
 # fails WHAT COMMAND [WORDS..]: the command must not do well.
 fails() {
@@ -38,9 +39,12 @@ with_other() (
     "$3"
 )
 
-# no_difference DRIVER KIND: the judge counts none on a few cases; that they are too few to reach everything is not what is asked.
+# no_difference DRIVER KIND: the judge counts none on a few cases; that they are too few to reach everything is not what is asked. The cases are
+# the same for every driver, and are written once.
 no_difference() {
-    compare "$1" "$2" 500 >"$made/judge.log" 2>&1
+    cases=$made/self-$2.cases
+    [ -f "$cases" ] || target/second "$2" "$seed" 500 "$cases" >/dev/null || return 0
+    run_c "$1${face:-}" "$2" <"$cases" | target/second "judge-$2" "$seed" 500 /dev/stdin >"$made/judge.log" 2>&1
     ! grep -q "^$2: 500 .*, [1-9][0-9]* differences" "$made/judge.log"
 }
 
