@@ -1,19 +1,8 @@
 /* The driver of tests/panel with address changes of its own in the library's place, in plain C: right, but for the one fault that L1_FAULT
- * names, if it names one. The library does every order, one by one, and writes the trace cards; what a SET, ADD or SUB of an address left
- * is then put aside for what this file makes of it. tests/self.sh sees that the check of sessions tells each fault. */
-#include "l1.h"
-
-static struct l1_ended wrong_run(uint64_t *drum, size_t cells, uint8_t *marks, size_t marks_len, const uint8_t *deck, size_t deck_len,
-                                 uint8_t *out, size_t room, uint64_t *state, size_t state_len, uint64_t budget, uint64_t stop);
-
-#define l1_run wrong_run
-#include "../panel/driver.c"
-#undef l1_run
-#include "fault.h"
+ * names, if it names one. tests/self.sh sees that the check of sessions tells each fault. */
+#include "stepped.h"
 
 #define MINUS 10000000000l
-#define CELLS 1000
-#define STATE 9
 #define TO_NINE 1000000000l
 /* What change answers where the digits are too many or below zero: 20, told apart from that for B. */
 #define NO_DIGITS 1020
@@ -27,9 +16,9 @@ struct order {
     uint8_t mark[CELLS];
 };
 
-/* Whether the order at the location is one of them. */
-static int is_ours(const uint64_t *cell, const uint8_t *mark, const uint64_t *numbers, struct order *o)
+static const struct order *taken(const uint64_t *cell, const uint8_t *mark, const uint64_t *numbers)
 {
+    static struct order order, *o = &order;
     uint64_t at = numbers[0], w, minus, o2, c;
     size_t i;
 
@@ -57,7 +46,7 @@ static int is_ours(const uint64_t *cell, const uint8_t *mark, const uint64_t *nu
     o->at = at;
     o->counter = numbers[4];
     o->tracing = numbers[8];
-    return 1;
+    return o;
 }
 
 /* d and what is added to it, within the digits below m; what goes beyond them is lost. */
@@ -163,7 +152,6 @@ static void refuse(const struct order *o, uint64_t *cell, uint8_t *out, uint64_t
     }
 }
 
-/* What this file makes of the order, in place of what the library made of it; the answer and the count. */
 static void replace(const struct order *o, uint64_t *cell, uint8_t *mark, uint8_t *out, uint64_t *numbers, struct l1_ended *r)
 {
     size_t i;
@@ -178,31 +166,4 @@ static void replace(const struct order *o, uint64_t *cell, uint8_t *mark, uint8_
     numbers[0] += r->count;
     if (r->number == NO_DIGITS)
         refuse(o, cell, out, numbers, r);
-}
-
-static struct l1_ended wrong_run(uint64_t *drum, size_t cells, uint8_t *marks, size_t marks_len, const uint8_t *deck, size_t deck_len,
-                                 uint8_t *out, size_t room, uint64_t *state, size_t state_len, uint64_t budget, uint64_t stop)
-{
-    static struct order o;
-    struct l1_ended all = {2, 0, 0, 0, 0}, one;
-    int looks = cells == CELLS && marks_len == CELLS && state_len == STATE, ours;
-
-    /* A long run is left to the library. */
-    if (budget < 1 || budget > 1000)
-        return l1_run(drum, cells, marks, marks_len, deck, deck_len, out, room, state, state_len, budget, stop);
-    while (all.count < budget) {
-        ours = looks && is_ours(drum, marks, state, &o);
-        one = l1_run(drum, cells, marks, marks_len, deck, deck_len, out + all.written, room - all.written, state, state_len, 1, stop);
-        if (ours && (one.number == 2 || one.number == 20 || one.number == 21))
-            replace(&o, drum, marks, out + all.written, state, &one);
-        all.count += one.count;
-        all.written += one.written;
-        if (one.number != 2) {
-            all.number = one.number;
-            all.place = one.place;
-            all.shown = one.shown;
-            return all;
-        }
-    }
-    return all;
 }

@@ -1,19 +1,8 @@
 /* The driver of tests/panel with block moves and address tests of its own in the library's place, in plain C: right, but for the one fault that
- * L1_FAULT names, if it names one. The library does every order, one by one, and writes the trace cards; what a block move or an address test
- * left is then put aside for what this file makes of it. tests/self.sh sees that the check of sessions tells each fault. */
-#include "l1.h"
-
-static struct l1_ended wrong_run(uint64_t *drum, size_t cells, uint8_t *marks, size_t marks_len, const uint8_t *deck, size_t deck_len,
-                                 uint8_t *out, size_t room, uint64_t *state, size_t state_len, uint64_t budget, uint64_t stop);
-
-#define l1_run wrong_run
-#include "../panel/driver.c"
-#undef l1_run
-#include "fault.h"
+ * L1_FAULT names, if it names one. tests/self.sh sees that the check of sessions tells each fault. */
+#include "stepped.h"
 
 #define MINUS 10000000000ul
-#define CELLS 1000
-#define STATE 9
 
 /* An order of these kinds, with its addresses as done; and the machine before it. */
 struct order {
@@ -22,9 +11,9 @@ struct order {
     uint8_t mark[CELLS];
 };
 
-/* Whether the order at the location is one of them. */
-static int is_ours(const uint64_t *cell, const uint8_t *mark, const uint64_t *numbers, struct order *o)
+static const struct order *taken(const uint64_t *cell, const uint8_t *mark, const uint64_t *numbers)
 {
+    static struct order order, *o = &order;
     uint64_t at = numbers[0], w;
     size_t i;
 
@@ -44,7 +33,7 @@ static int is_ours(const uint64_t *cell, const uint8_t *mark, const uint64_t *nu
         o->mark[i] = mark[i];
     }
     o->at = at;
-    return 1;
+    return o;
 }
 
 /* Whether n cells from b on begin at 000 or go past 999. */
@@ -150,11 +139,13 @@ static uint64_t test(const struct order *o, uint64_t *at)
     return 2;
 }
 
-/* What this file makes of the order, in place of what the library made of it; the answer and the count. */
-static void replace(const struct order *o, uint64_t *cell, uint8_t *mark, uint64_t *numbers, struct l1_ended *r)
+static void replace(const struct order *o, uint64_t *cell, uint8_t *mark, uint8_t *out, uint64_t *numbers, struct l1_ended *r)
 {
     size_t i;
 
+    if (o->code == 9 && r->written && has("a-not-traced"))
+        for (i = 0; i < 11; i++)
+            out[41 + i] = i ? '0' : '+';
     for (i = 0; i < CELLS; i++) {
         cell[i] = o->cell[i];
         mark[i] = o->mark[i];
@@ -168,38 +159,4 @@ static void replace(const struct order *o, uint64_t *cell, uint8_t *mark, uint64
         r->number = has("test-23") ? 23 : test(o, &numbers[0]);
     }
     r->count = r->number == 2 && !has("not-counted");
-}
-
-static struct l1_ended wrong_run(uint64_t *drum, size_t cells, uint8_t *marks, size_t marks_len, const uint8_t *deck, size_t deck_len,
-                                 uint8_t *out, size_t room, uint64_t *state, size_t state_len, uint64_t budget, uint64_t stop)
-{
-    static struct order o;
-    struct l1_ended all = {2, 0, 0, 0, 0}, one;
-    int looks = cells == CELLS && marks_len == CELLS && state_len == STATE, ours;
-    size_t i;
-
-    /* A long run is left to the library. */
-    if (budget < 1 || budget > 1000)
-        return l1_run(drum, cells, marks, marks_len, deck, deck_len, out, room, state, state_len, budget, stop);
-    while (all.count < budget) {
-        ours = looks && is_ours(drum, marks, state, &o);
-        one = l1_run(drum, cells, marks, marks_len, deck, deck_len, out + all.written, room - all.written, state, state_len, 1, stop);
-        if (ours && (one.number == 2 || one.number == 20 || one.number == 21)) {
-            if (o.code == 9 && one.written && has("a-not-traced"))
-                for (i = 0; i < 11; i++)
-                    out[all.written + 41 + i] = i ? '0' : '+';
-            replace(&o, drum, marks, state, &one);
-        }
-        all.count += one.count;
-        all.written += one.written;
-        if (one.number != 2) {
-            all.number = one.number;
-            all.place = one.place;
-            all.shown = one.shown;
-            return all;
-        }
-        if (!one.count)
-            return all;
-    }
-    return all;
 }

@@ -310,18 +310,14 @@ came-wrapped u b k x w c = refl
 abbrev DoneOrPast : Outcome → Type 0
 DoneOrPast o = (mayGoOn o ≡ true) ⊎ (o ≡ Undone BadAddress)
 
+if-held : (u : Machine) (b : ℕ) (t : Bool) (w : ℕ) → DoneOrPast (changed u b (pick t (Result w) (Refused BadAddress)) .outcome)
+if-held u b true w = inl refl
+if-held u b false w = inr refl
+
 came-carried : (u : Machine) (b : ℕ) (k : Changing) (x : Address) (w c : ℕ) → DoneOrPast (changed u b (changedWord true k x w c) .outcome)
 came-carried u b SetTo x w c = inl refl
-came-carried u b AddTo x w c = by-test (leb (digitsIn w + shifted x c) 9999999999)
-  where
-    by-test : (t : Bool) → DoneOrPast (changed u b (pick t (Result (withDigits w (digitsIn w + shifted x c))) (Refused BadAddress)) .outcome)
-    by-test true = inl refl
-    by-test false = inr refl
-came-carried u b SubFrom x w c = by-test (leb (shifted x c) (digitsIn w))
-  where
-    by-test : (t : Bool) → DoneOrPast (changed u b (pick t (Result (withDigits w (digitsIn w - shifted x c))) (Refused BadAddress)) .outcome)
-    by-test true = inl refl
-    by-test false = inr refl
+came-carried u b AddTo x w c = if-held u b (leb (digitsIn w + shifted x c) 9999999999) _
+came-carried u b SubFrom x w c = if-held u b (leb (shifted x c) (digitsIn w)) _
 
 came-by : (s : Bool) (u : Machine) (b : ℕ) (k : Changing) (x : Address) (w c : ℕ) → DoneOrPast (changed u b (changedWord s k x w c) .outcome)
 came-by true u b k x w c = came-carried u b k x w c
