@@ -1,5 +1,7 @@
 // The words of a call of the program, as bytes: what each says, and what all of them ask for. Each function that is shown here takes any
 // bytes and any numbers.
+#![tactic(auto)]
+
 mod options;
 mod words;
 

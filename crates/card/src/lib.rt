@@ -1,5 +1,7 @@
 // Punched cards: one card read from what is left of a deck, the check of a deck, its data cards judged for READ, and cards and lines
 // written into what is left of an output. Each function that is shown here takes any bytes and any numbers.
+#![tactic(auto)]
+
 mod cards;
 mod checking;
 mod fields;

@@ -1,5 +1,7 @@
 // The built codes: the project's one table of them, and how the code of an order is found in it. Each function that is shown here takes any
 // numbers.
+#![tactic(auto)]
+
 mod keys;
 mod rows;
 mod slots;

@@ -1,4 +1,6 @@
 // Files by name: read whole, made new, and replaced whole or not at all. What a call of the system reads or writes no contract can say.
+#![tactic(auto)]
+
 mod names;
 
 ghost use Rattle.io.specs.Counts.{IsPrefixLen};

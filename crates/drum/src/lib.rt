@@ -1,5 +1,7 @@
 // The cells of a lent drum and its marks: read as the job sees them, stored into, and the checks 10, 20 and 21. Each function takes runs of
 // any length and any address; where there is no cell, there is a foreign one.
+#![tactic(auto)]
+
 mod blocks;
 mod checking;
 mod checks;

@@ -1,4 +1,6 @@
 // What is wrong with a card or a deck, as a sentence that people read. Each function that is shown here takes any bytes and any numbers.
+#![tactic(auto)]
+
 mod counts;
 mod layout;
 mod lines;

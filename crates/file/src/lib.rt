@@ -1,4 +1,6 @@
 // The machine file, written and read, and the text of cells, read. Each function that is shown here takes any bytes and any numbers.
+#![tactic(auto)]
+
 mod parts;
 mod reading;
 mod texts;

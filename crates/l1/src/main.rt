@@ -1,5 +1,7 @@
 // The program: one command for each call. Here the words of the call choose what is done; it is done by the other modules, over the
 // libraries.
+#![tactic(auto)]
+
 mod decks;
 mod listings;
 mod machines;

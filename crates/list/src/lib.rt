@@ -1,4 +1,6 @@
 // Cards and cells as lines that people read. Each function that is shown here takes any bytes and any numbers.
+#![tactic(auto)]
+
 mod cards;
 mod cells;
 mod ends;
