@@ -8,7 +8,7 @@ use crate::words::{Asked, Command, behind_names};
 use rules::Switches;
 
 // Whether a word may come: not with this command, or once, or once and must, or no more.
-#[derive(Drop)]
+#[derive(Clone, Copy)]
 pub enum Turn {
     Never,
     Open,
@@ -17,7 +17,7 @@ pub enum Turn {
 }
 
 // What is wrong with a word.
-#[derive(Drop)]
+#[derive(Clone, Copy)]
 pub enum Trouble {
     Fine,
     Stray,
@@ -27,7 +27,7 @@ pub enum Trouble {
 
 // What a call asks for beside its files. Of a word with a number behind it there are whether it may come and the number: limit and budget,
 // first and order, bears and problem.
-#[derive(Drop)]
+#[derive(Clone, Copy)]
 pub struct Options {
     pub good: bool,
     pub traced: Turn,

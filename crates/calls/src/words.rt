@@ -6,7 +6,7 @@ ghost use Rattle.calls.specs.Words.{capped_number, as_budget, as_first, as_probl
 use octets::is_digit;
 
 // What is to be done.
-#[derive(Drop)]
+#[derive(Clone, Copy)]
 pub enum Command {
     Session,
     New,
@@ -20,14 +20,14 @@ pub enum Command {
 }
 
 // What a text says as a number. One above 1,000,000 is told as 1,000,000, which no run and no deck takes.
-#[derive(Drop)]
+#[derive(Clone, Copy)]
 pub enum Numeral {
     Value(u64),
     None,
 }
 
 // What a word behind the names asks for.
-#[derive(Drop)]
+#[derive(Clone, Copy)]
 pub enum Asked {
     Traced,
     Stop,

@@ -6,7 +6,7 @@ ghost use Rattle.card.specs.Forms.{FormIs};
 use octets::is_digit;
 
 // How a card is laid out: how many words and bytes it has, where its location stands and how many cells that names.
-#[derive(Drop)]
+#[derive(Clone, Copy)]
 pub(crate) struct Form {
     pub words: usize,
     pub size: usize,

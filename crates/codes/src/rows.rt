@@ -16,7 +16,7 @@ use rules::Tracing::{StTrEras, StartTr, StopTr};
 use rules::{Built, Class, Operation};
 
 // A row: a code, its operation, the class of its operands, and its name.
-#[derive(Drop)]
+#[derive(Clone, Copy)]
 struct Row(u64, Operation, Class, [u8; 10]);
 
 const ADD: Row = Row(1_000, Reckon(Add), TwoNumbers, *b"ADD       ");

@@ -3,7 +3,7 @@ ghost use Rattle.std.specs.Prelude.{◌≡◌, ◌-◌, ◌≤◌};
 ghost use Rattle.faults.specs.Sentences.{words_of, data_field, stop_field, field_at, due_at, highest};
 
 // A field of a card.
-#[derive(Drop)]
+#[derive(Clone, Copy)]
 pub enum Field {
     Kind,
     CardNumber,
@@ -17,7 +17,7 @@ pub enum Field {
 }
 
 // What is due at a place: a digit or a sign; as a kind one of a deck, of a data card or of the first-order card; or a location up to one.
-#[derive(Drop)]
+#[derive(Clone, Copy)]
 pub enum Due {
     Digit,
     Sign,

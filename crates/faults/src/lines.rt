@@ -6,7 +6,7 @@ ghost use Rattle.faults.specs.Sentences.{numeral};
 use octets::{copy, lesser, put_field, width_of};
 
 // What is written, at the start of a room with zeros behind it, and how many bytes it has. A line has room for every sentence.
-#[derive(Drop)]
+#[derive(Clone, Copy)]
 pub struct Line {
     pub bytes: [u8; 256],
     pub size: usize,

@@ -9,7 +9,7 @@ use rules::State;
 use states::state_in;
 
 // Whether a file was read, and the state in it.
-#[derive(Drop)]
+#[derive(Clone, Copy)]
 pub struct Found {
     pub good: bool,
     pub state: State,

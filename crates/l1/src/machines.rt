@@ -15,7 +15,7 @@ use disk::{Filled, read_whole};
 use rules::{Bar, Ending, Loading, State};
 
 // Whether a machine file could be read, whether it is one, and the state in it.
-#[derive(Drop)]
+#[derive(Clone, Copy)]
 pub struct Held {
     pub read: bool,
     pub good: bool,

@@ -13,7 +13,7 @@ use machine::Loaded;
 use rules::{Ending, Loading, Refusal, State, Switches};
 
 // What a run came to, room after room, and whether all its cards were sent.
-#[derive(Drop)]
+#[derive(Clone, Copy)]
 pub struct Gone {
     pub sent: bool,
     pub ending: Ending,

@@ -9,7 +9,7 @@ use calls::{
 };
 
 // Whether a word could be read as the name of a file, and its length.
-#[derive(Drop)]
+#[derive(Clone, Copy)]
 pub struct Named {
     pub good: bool,
     pub count: usize,

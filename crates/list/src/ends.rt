@@ -9,7 +9,7 @@ use faults::{Line, sum};
 use rules::{Card, Fault};
 
 // What has been listed of a file: how many cards, whether one is a first-order card, and whether one stands in no deck.
-#[derive(Drop)]
+#[derive(Clone, Copy)]
 pub struct Seen {
     pub cards: usize,
     pub first: bool,

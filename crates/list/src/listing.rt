@@ -9,7 +9,7 @@ use crate::traces::write_trace;
 use rules::Card;
 
 // What was written of a card: how many bytes of lines, and how many bytes the card takes.
-#[derive(Drop)]
+#[derive(Clone, Copy)]
 pub struct Lines {
     pub written: usize,
     pub taken: usize,

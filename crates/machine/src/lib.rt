@@ -21,7 +21,7 @@ use rules::{Ending, Loading, State};
 pub use running::run;
 
 // What a call of run came to.
-#[derive(Drop)]
+#[derive(Clone, Copy)]
 pub struct Ran {
     pub ending: Ending,
     pub count: u64,
@@ -30,7 +30,7 @@ pub struct Ran {
 }
 
 // What a call of load came to.
-#[derive(Drop)]
+#[derive(Clone, Copy)]
 pub struct Loaded {
     pub loading: Loading,
     pub state: State,

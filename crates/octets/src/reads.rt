@@ -60,7 +60,7 @@ pub fn number_in(d: &[u8], a: usize, n: usize) -> u64
 }
 
 // What a number is with one more digit behind it.
-#[derive(Drop)]
+#[derive(Clone, Copy)]
 pub enum Longer {
     Number(u64),
     TooLarge,

@@ -13,7 +13,7 @@ use rules::{Deck, Reckoned, Sum};
 
 // What arithmetic tells: 0 and the word, or the stop number and 0.
 #[repr(C)]
-#[derive(Drop)]
+#[derive(Clone, Copy)]
 pub struct Word {
     pub number: u64,
     pub word: u64,
@@ -21,7 +21,7 @@ pub struct Word {
 
 // What a sum or a difference tells: the same, and how many digits went.
 #[repr(C)]
-#[derive(Drop)]
+#[derive(Clone, Copy)]
 pub struct Summed {
     pub number: u64,
     pub word: u64,
@@ -30,7 +30,7 @@ pub struct Summed {
 
 // What the check of a deck tells: 0 and 0, or the number and the place of its first fault. What a load tells: 0 and 0, or why it is refused.
 #[repr(C)]
-#[derive(Drop)]
+#[derive(Clone, Copy)]
 pub struct Place {
     pub number: u64,
     pub place: u64,
@@ -79,7 +79,7 @@ fn place_told(x: Deck) -> Place
 
 // What a run tells: how it ended, the place that goes with a refused call, the orders completed, the word shown and the bytes written.
 #[repr(C)]
-#[derive(Drop)]
+#[derive(Clone, Copy)]
 pub struct Ended {
     pub number: u64,
     pub place: u64,
@@ -90,7 +90,7 @@ pub struct Ended {
 
 // What making a deck tells: 0 and the bytes of the deck, or why there is none and 0.
 #[repr(C)]
-#[derive(Drop)]
+#[derive(Clone, Copy)]
 pub struct Made {
     pub number: u64,
     pub written: u64,

@@ -2,14 +2,14 @@
 // paper; the code of every other crate uses these types and is held to those definitions.
 
 // A cell as the job sees it. One that it does not own has no content here.
-#[derive(Drop)]
+#[derive(Clone, Copy)]
 pub enum Cell {
     Foreign,
     Owned(u64),
 }
 
 // Why an order, or arithmetic on two words, is refused.
-#[derive(Drop)]
+#[derive(Clone, Copy)]
 pub enum Refusal {
     BadAddress,
     Unmarked,
@@ -24,21 +24,21 @@ pub enum Refusal {
 }
 
 // What arithmetic or the change of an address answers: the word to store, or why there is none.
-#[derive(Drop)]
+#[derive(Clone, Copy)]
 pub enum Reckoned {
     Result(u64),
     Refused(Refusal),
 }
 
 // What is told of a sum or a difference: the answer, and how many digits went.
-#[derive(Drop)]
+#[derive(Clone, Copy)]
 pub struct Sum {
     pub answer: Reckoned,
     pub lost: u64,
 }
 
 // What is wrong with one card.
-#[derive(Drop)]
+#[derive(Clone, Copy)]
 pub enum Fault {
     UnknownKind,
     SecondFirst,
@@ -48,7 +48,7 @@ pub enum Fault {
 }
 
 // One card at the start of what is left of a deck. Of a card with a fault the offending byte is told, counted from the card's kind byte.
-#[derive(Drop)]
+#[derive(Clone, Copy)]
 pub enum Card {
     Data {
         number: u64,
@@ -67,7 +67,7 @@ pub enum Card {
 
 // What is wrong with a deck: its length, the fault of the card at a place with the offending byte, or that it has no first-order card.
 // Places are counted from the deck's start.
-#[derive(Drop)]
+#[derive(Clone, Copy)]
 pub enum DeckFault {
     TooLong,
     At {
@@ -79,7 +79,7 @@ pub enum DeckFault {
 }
 
 // A deck as checked: good, with the place behind its first-order card and what that card says, or faulty.
-#[derive(Drop)]
+#[derive(Clone, Copy)]
 pub enum Deck {
     Good {
         behind: usize,
@@ -90,7 +90,7 @@ pub enum Deck {
 }
 
 // Arithmetic on the numbers at A and B, or at B.
-#[derive(Drop)]
+#[derive(Clone, Copy)]
 pub enum Reckoning {
     Add,
     Sub,
@@ -102,7 +102,7 @@ pub enum Reckoning {
 }
 
 // Stops and transfers.
-#[derive(Drop)]
+#[derive(Clone, Copy)]
 pub enum Going {
     UncStop,
     CondStop,
@@ -114,7 +114,7 @@ pub enum Going {
 }
 
 // The three addresses of an order.
-#[derive(Drop)]
+#[derive(Clone, Copy)]
 pub enum Address {
     OfA,
     OfB,
@@ -122,7 +122,7 @@ pub enum Address {
 }
 
 // Changes of one address of the word at B.
-#[derive(Drop)]
+#[derive(Clone, Copy)]
 pub enum Changing {
     SetTo,
     AddTo,
@@ -130,7 +130,7 @@ pub enum Changing {
 }
 
 // Orders about tracing.
-#[derive(Drop)]
+#[derive(Clone, Copy)]
 pub enum Tracing {
     StartTr,
     StopTr,
@@ -139,7 +139,7 @@ pub enum Tracing {
 
 // The built operations, by family. Move is MOVE 000, MoveBlock is MOVE with A not 000. A loop says of the counts A, B and C whether it raises
 // them.
-#[derive(Drop)]
+#[derive(Clone, Copy)]
 pub enum Operation {
     Reckon(Reckoning),
     Move,
@@ -154,7 +154,7 @@ pub enum Operation {
 }
 
 // Which of an order's addresses are used, and as what.
-#[derive(Drop)]
+#[derive(Clone, Copy)]
 pub enum Class {
     Free,
     TwoNumbers,
@@ -169,21 +169,21 @@ pub enum Class {
 }
 
 // A code as looked up in the table of built codes.
-#[derive(Drop)]
+#[derive(Clone, Copy)]
 pub enum Built {
     As(Operation, Class),
     No,
 }
 
 // What the checks that go by the class found.
-#[derive(Drop)]
+#[derive(Clone, Copy)]
 pub enum Checked {
     Passes,
     Refuses(Refusal),
 }
 
 // The machine state. Mode is 0 for plain and 1 for traced, tracing is 1 while it is on.
-#[derive(Drop)]
+#[derive(Clone, Copy)]
 pub struct State {
     pub location: usize,
     pub counts: [u64; 3],
@@ -195,14 +195,14 @@ pub struct State {
 }
 
 // Whether the cards for READ fill its block: the place behind the last of them, or why they do not.
-#[derive(Drop)]
+#[derive(Clone, Copy)]
 pub enum Judged {
     Fits(usize),
     Fails(Refusal),
 }
 
 // The stops that an order makes: by itself, by the console's switch, or because its result has lost its digits.
-#[derive(Drop)]
+#[derive(Clone, Copy)]
 pub enum Stop {
     Unconditional,
     Conditional,
@@ -210,7 +210,7 @@ pub enum Stop {
 }
 
 // What came of an order, and so of a run: it may go on, it stopped and shows a word, or the order was refused.
-#[derive(Drop)]
+#[derive(Clone, Copy)]
 pub enum Outcome {
     GoesOn,
     Stops(Stop, u64),
@@ -218,13 +218,13 @@ pub enum Outcome {
 }
 
 // How the console's switches stand for a run: PROGRAMMED STOP, true on STOP.
-#[derive(Drop)]
+#[derive(Clone, Copy)]
 pub struct Switches {
     pub stop: bool,
 }
 
 // Why a call of load or run does nothing at all.
-#[derive(Drop)]
+#[derive(Clone, Copy)]
 pub enum Bar {
     BadDrum,
     BadDeck(DeckFault),
@@ -232,21 +232,21 @@ pub enum Bar {
 }
 
 // How a call of run ended.
-#[derive(Drop)]
+#[derive(Clone, Copy)]
 pub enum Ending {
     Ran(Outcome),
     NotRun(Bar),
 }
 
 // How a call of load ended.
-#[derive(Drop)]
+#[derive(Clone, Copy)]
 pub enum Loading {
     Loaded,
     NotLoaded(Bar),
 }
 
 // How a call of make ended: with a deck of so many bytes, or with none and why.
-#[derive(Drop)]
+#[derive(Clone, Copy)]
 pub enum Making {
     Made(usize),
     UnfitDrum,

@@ -9,14 +9,14 @@ use disk::fill;
 use list::{Seen, is_second, last_line, none_seen, with_kind};
 
 // How far a part of a file is listed: how many bytes its cards take, and what was seen up to there.
-#[derive(Drop)]
+#[derive(Clone, Copy)]
 pub struct Passed {
     pub taken: usize,
     pub seen: Seen,
 }
 
 // The same, and whether all lines were sent.
-#[derive(Drop)]
+#[derive(Clone, Copy)]
 pub struct Listed {
     pub sent: bool,
     pub passed: Passed,
@@ -106,7 +106,7 @@ fn end_at(seen: Seen, place: usize, rest: &[u8]) {
 
 // How a listing stands: whether it goes on, how many bytes at the start of the room are yet to be listed, their place in the file, and what
 // was seen before them.
-#[derive(Drop)]
+#[derive(Clone, Copy)]
 pub struct Window {
     pub open: bool,
     pub kept: usize,

@@ -13,7 +13,7 @@ use rules::Address;
 pub use targets::{address_target, exponent_target, sign_target};
 
 // An order taken apart: O1 and A as one number of four digits, B and C.
-#[derive(Drop)]
+#[derive(Clone, Copy)]
 pub struct Parts {
     pub key: usize,
     pub b: usize,

@@ -1,0 +1,25 @@
+-- `octets::set_field` meets its contract. The loop's invariant: the last digits stand in the output, and all else is as it was.
+-- Assumes nothing.
+use mathlib.Core.List.{List}
+use mathlib.Core.Path.{◌≡◌, refl, sym, ap, ◌∙◌}
+use Prim.Native.Nat.{ℕ, suc, ◌+◌, ◌-◌, ◌/◌, ◌%◌, ◌^◌, ◌≤◌}
+use native.Mathlib.Nat.{pow-suc, div-div-eq-div-mul}
+use native.Mathlib.Omega.{arith}
+use lib.ListN.{length, set, length-set}
+use Rattle.rules.specs.Cards.{digits}
+use Rattle.rules.proofs.Digits.{length_digits}
+use Rattle.octets.specs.Put.{splice}
+use Rattle.octets.proofs.Splices.{splice_none, splice_before}
+use Rattle.octets.proofs.fields.set_field.Given as goal
+
+-- the last k digits of x stand in the output from place e on, and y is what is left of x before them
+pub record Passed (out₀ : List ℕ) (x k e : ℕ) (out : List ℕ) (y : ℕ) : Type 0 where
+  pub same : length out ≡ length out₀
+  pub left : y ≡ x / 10 ^ k
+  pub bytes : out ≡ splice e (digits k x) out₀
+
+abbrev pub invariant-loop-i : goal.invariant-loop-i
+invariant-loop-i l = (l.i ≤ l.n) × Passed l.initial.out l.x (l.n - l.i) (l.a + l.i) l.out l.y
+
+abbrev pub decreases-loop-i : goal.decreases-loop-i
+decreases-loop-i l = l.i
