@@ -5,14 +5,12 @@ use mathlib.Core.Path.{◌≡◌, refl, sym, ap₂}
 use Prim.Native.Nat.{ℕ, zero, suc, ◌+◌, ◌*◌, ◌-◌, ◌≤◌}
 use native.Mathlib.Nat.{add-zero}
 use native.Mathlib.Omega.{arith}
-use borrow.Author.Rules.{rules}
 use borrow.Author.Tests.{eq-eqb, ne_eqb}
 use lib.Dec.{eqb}
 use lib.ListN.{length, get_or-eq_default}
 use Rattle.rules.specs.Cards.{number_in, word_in}
 use Rattle.rules.specs.Words.{pick}
-use Rattle.card.proofs.reading.word_of.Statement.{statement}
-use Rattle.card.proofs.reading.word_of.Tie as tie
+use Rattle.card.proofs.reading.word_of.Goals as goal
 
 -- past the end there is nothing
 number_past : (d : List ℕ) (a n : ℕ) → length d ≤ a → number_in d a n ≡ 0
@@ -25,35 +23,13 @@ unfolding word_in
 word-past d a h =
     ap₂ (λ (x b : ℕ). x + pick (eqb b 45) 10000000000 0) (number_past d (a + 1) 10 (omega arith)) (get_or-eq_default d 0 h)
 
-returns : tie.Need-returns
-returns c =
-    let start : tie.Start = search in
-    sym (word-past start.args.rest.now (8 + 11 * start.args.i) (omega arith))
+pub returns-then-rest-i : goal.returns-then-rest-i
+returns-then-rest-i c = sym (word-past c.args.rest.now (8 + 11 * c.args.i) (omega arith))
 
-returns-2 : tie.Need-returns-2
+pub returns-then-byte_at-eq45 : goal.returns-then-byte_at-eq45
 unfolding word_in
-returns-2 c =
-    let number : tie.After-number-in = search in
-    let byte : tie.After-byte-at = search in
-    simp (← byte.byte_at.ensures, eq-eqb _ 45 c.if2.true, number.number_in.ensures.0)
+returns-then-byte_at-eq45 c = simp (← c.byte_at.ensures, eq-eqb _ 45 c.if-byte_at-eq45.true, c.number_in-x.ensures.0)
 
-returns-3 : tie.Need-returns-3
+pub returns : goal.returns
 unfolding word_in
-returns-3 c =
-    let number : tie.After-number-in = search in
-    let byte : tie.After-byte-at = search in
-    simp (← byte.byte_at.ensures, ne_eqb _ 45 c.if2.false, number.number_in.ensures.0, add-zero)
-
-pub word-of-spec : {M : Type 1} → statement M
-word-of-spec =
-    tie.close
-    (tie.spec
-    returns
-    (λ c. search rules)
-    (λ c. search rules)
-    (λ c. search rules)
-    (λ c κs. search rules)
-    (λ c κs. search rules)
-    (λ c. search rules)
-    returns-2
-    returns-3)
+returns c = simp (← c.byte_at.ensures, ne_eqb _ 45 c.if-byte_at-eq45.false, c.number_in-x.ensures.0, add-zero)
