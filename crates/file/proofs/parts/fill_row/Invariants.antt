@@ -1,0 +1,21 @@
+-- `file::fill_row` meets its contract. The loop's invariant: the numbers passed stand at the row's start. Assumes nothing.
+use mathlib.Core.List.{List}
+use mathlib.Core.Path.{◌≡◌, refl, sym, ap, ◌∙◌}
+use Prim.Native.Nat.{ℕ, ◌*◌, ◌-◌, ◌≤◌}
+use native.Mathlib.Omega.{arith}
+use lib.ListN.{length, take, drop, length-set}
+use lib.Seq.{paste, paste-zero, drop-drop}
+use Rattle.file.specs.Files.{number_of, row_in}
+use Rattle.file.proofs.Files.{length_in, in-at}
+use Rattle.octets.proofs.Copies.{fill_more, fill_end}
+use Rattle.file.proofs.parts.fill_row.Given as goal
+
+-- what is to stand in the row
+abbrev pub there : List ℕ → List ℕ → ℕ → List ℕ
+there row bytes a = row_in (length row) (drop a bytes)
+
+abbrev pub invariant-loop-i : goal.invariant-loop-i
+invariant-loop-i l = (l.i ≤ length l.row) × (length l.row ≡ length l.initial.row) × (l.row ≡ paste l.initial.row 0 (there l.initial.row l.bytes l.a) l.i)
+
+abbrev pub decreases-loop-i : goal.decreases-loop-i
+decreases-loop-i l = length l.row - l.i
