@@ -2,10 +2,9 @@
 -- as it was. Assumes nothing.
 use mathlib.Core.Path.{◌≡◌, refl, sym, ap, ◌∙◌}
 use mathlib.Core.List.{◌++◌}
-use Prim.Native.Nat.{ℕ, ◌+◌, ◌*◌, ◌-◌, ◌≤◌}
+use Prim.Native.Nat.{ℕ, ◌+◌, ◌*◌}
 use native.Mathlib.Numerals.{add-one}
 use native.Mathlib.Omega.{arith}
-use lib.ListN.{length}
 use Rattle.list.specs.Listing.{cell_line, cell_lines}
 use Rattle.octets.specs.Put.{splice}
 use Rattle.octets.proofs.Splices.{splice_more, splice_none}

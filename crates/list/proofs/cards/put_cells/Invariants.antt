@@ -1,15 +1,10 @@
 -- `list::cards::put_cells` meets its contract. The loop's invariant: the lines of the words passed stand in the output, and all else is
 -- as it was. Assumes nothing.
-use mathlib.Core.Path.{◌≡◌, refl, sym, ap, ◌∙◌}
-use mathlib.Core.List.{◌++◌}
-use Prim.Native.Nat.{ℕ, ◌+◌, ◌*◌, ◌-◌, ◌≤◌}
-use native.Mathlib.Numerals.{add-one}
-use native.Mathlib.Omega.{arith}
+use mathlib.Core.Path.{◌≡◌}
+use Prim.Native.Nat.{◌-◌, ◌≤◌}
 use lib.ListN.{length}
-use Rattle.list.specs.Listing.{cell_line, cell_lines}
+use Rattle.list.specs.Listing.{cell_lines}
 use Rattle.octets.specs.Put.{splice}
-use Rattle.octets.proofs.Splices.{splice_more, splice_none}
-use Rattle.list.proofs.Lengths.{length_cell, length_cells}
 use Rattle.list.proofs.cards.put_cells.Given as goal
 
 abbrev pub invariant-loop-i : goal.invariant-loop-i

@@ -8,7 +8,6 @@ use Rattle.card.proofs.Writes.{no_line}
 use Rattle.octets.proofs.Joins.{part_begin, put_part}
 use Rattle.list.proofs.Endings.{all}
 use Rattle.list.proofs.Lengths.{length_head, length_cells, length_data}
-use borrow.Author.Rules.{rules}
 use Rattle.list.proofs.cards.write_data.Goals as goal
 
 pub returns-then-out-size : goal.returns-then-out-size

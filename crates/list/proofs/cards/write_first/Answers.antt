@@ -4,7 +4,6 @@ use Rattle.list.specs.Listing.{first_line}
 use Rattle.card.proofs.Writes.{no_line}
 use Rattle.list.proofs.Endings.{all}
 use Rattle.list.proofs.Lengths.{length_first}
-use borrow.Author.Rules.{rules}
 use Rattle.list.proofs.cards.write_first.Goals as goal
 
 pub returns-then-out-lt32 : goal.returns-then-out-lt32

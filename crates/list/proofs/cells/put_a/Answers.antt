@@ -11,7 +11,6 @@ use Rattle.rules.proofs.Digits.{length_digits}
 use Rattle.octets.specs.Put.{splice}
 use Rattle.octets.proofs.Joins.{put_begin, put_more}
 use Rattle.list.specs.Listing.{a_text}
-use borrow.Author.Rules.{rules}
 use Rattle.list.proofs.cells.put_a.Goals as goal
 
 pub returns-then-x-eq0 : goal.returns-then-x-eq0

@@ -5,7 +5,6 @@ use Rattle.rules.specs.Bytes.{bytes}
 use Rattle.rules.specs.Cards.{digits}
 use Rattle.rules.proofs.Digits.{length_digits}
 use Rattle.octets.proofs.Joins.{put_begin, put_more}
-use borrow.Author.Rules.{rules}
 use Rattle.list.proofs.cells.put_address.Goals as goal
 
 pub returns : goal.returns

@@ -8,7 +8,6 @@ use Rattle.rules.proofs.Digits.{length_digits}
 use Rattle.octets.proofs.Joins.{put_begin, put_more, put_part}
 use Rattle.list.specs.Listing.{order_line, cell_line}
 use Rattle.list.proofs.Lengths.{length_order}
-use borrow.Author.Rules.{rules}
 use Rattle.list.proofs.cells.put_cell.Goals as goal
 
 pub returns : goal.returns

@@ -16,7 +16,6 @@ use Rattle.codes.proofs.Names.{name_ten}
 use Rattle.list.specs.Listing.{name_of, a_text, order_line}
 use Rattle.list.proofs.Joins.{put_both}
 use Rattle.list.proofs.Lengths.{length_a}
-use borrow.Author.Rules.{rules}
 use Rattle.list.proofs.cells.put_order.Goals as goal
 
 pub returns : goal.returns

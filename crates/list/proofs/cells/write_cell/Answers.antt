@@ -10,7 +10,6 @@ use Rattle.octets.specs.Put.{splice}
 use Rattle.card.proofs.Writes.{no_line}
 use Rattle.list.proofs.Endings.{nothing, all}
 use Rattle.list.proofs.Lengths.{length_cell}
-use borrow.Author.Rules.{rules}
 use Rattle.list.proofs.cells.write_cell.Goals as goal
 
 -- what is shown, by the two tests

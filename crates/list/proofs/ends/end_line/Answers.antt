@@ -9,7 +9,6 @@ use Rattle.rules.specs.Words.{pick}
 use Rattle.faults.specs.Sentences.{place_behind, long_line, none_line}
 use Rattle.faults.proofs.Says.{said_as}
 use Rattle.list.specs.Listing.{end_line}
-use borrow.Author.Rules.{rules}
 use Rattle.list.proofs.ends.end_line.Goals as goal
 
 -- by the three tests

@@ -2,7 +2,6 @@
 use mathlib.Core.Path.{refl, sym, ap, ◌∙◌}
 use Rattle.faults.proofs.Says.{said_as, card_lines}
 use Rattle.list.specs.Listing.{last_by, last_line}
-use borrow.Author.Rules.{rules}
 use Rattle.list.proofs.ends.last_line.Goals as goal
 
 pub returns-in-Bad : goal.returns-in-Bad

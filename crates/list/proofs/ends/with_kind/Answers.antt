@@ -10,7 +10,6 @@ use Rattle.rules.specs.Cards.{first_kind, trace_kind, stop_kind}
 use Rattle.faults.specs.Sentences.{place_behind}
 use Rattle.list.specs.declared.ends.Seen.{Seen}
 use Rattle.list.specs.Listing.{with_kind}
-use borrow.Author.Rules.{rules}
 use Rattle.list.proofs.ends.with_kind.Goals as goal
 
 -- a record of what is listed, part by part

@@ -4,7 +4,6 @@ use borrow.Author.Tests.{eq-eqb, ne_eqb, lt-ltb, le-ltb}
 use Rattle.rules.specs.declared.Fault.TheVariants.{BadByte}
 use Rattle.rules.specs.declared.Card.TheVariants.{Bad}
 use Rattle.list.specs.Listing.{wrong_in}
-use borrow.Author.Rules.{rules}
 use Rattle.list.proofs.ends.wrong_in.Goals as goal
 
 pub returns-then-rest-lt77 : goal.returns-then-rest-lt77

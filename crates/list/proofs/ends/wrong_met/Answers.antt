@@ -1,6 +1,5 @@
 -- `list::ends::wrong_met` meets its contract. Assumes nothing.
 use mathlib.Core.Path.{sym, ◌∙◌}
-use borrow.Author.Rules.{rules}
 use Rattle.list.proofs.ends.wrong_met.Goals as goal
 
 pub returns-then-is_second : goal.returns-then-is_second

@@ -4,7 +4,6 @@ use Prim.Native.Nat.{ℕ}
 use borrow.Author.Tests.{lt-leb, le-leb, eq-eqb, ne_eqb}
 use lib.Dec.{eqb}
 use Rattle.list.specs.Listing.{is_stop}
-use borrow.Author.Rules.{rules}
 use Rattle.list.proofs.kinds.is_stop.Goals as goal
 
 pub returns-then-rest-lt24 : goal.returns-then-rest-lt24

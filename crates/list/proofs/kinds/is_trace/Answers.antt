@@ -4,7 +4,6 @@ use Prim.Native.Nat.{ℕ}
 use borrow.Author.Tests.{lt-leb, le-leb, eq-eqb, ne_eqb}
 use lib.Dec.{eqb}
 use Rattle.list.specs.Listing.{is_trace}
-use borrow.Author.Rules.{rules}
 use Rattle.list.proofs.kinds.is_trace.Goals as goal
 
 pub returns-then-rest-lt77 : goal.returns-then-rest-lt77

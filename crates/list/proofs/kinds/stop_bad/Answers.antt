@@ -8,7 +8,6 @@ use Rattle.rules.specs.Cards.{bad_from}
 use Rattle.rules.proofs.Dues.{bad_within}
 use Rattle.card.proofs.Checks.{part, part_is}
 use Rattle.list.specs.Listing.{stop_bad}
-use borrow.Author.Rules.{rules}
 use Rattle.list.proofs.kinds.stop_bad.Goals as goal
 
 pub returns-then-bad-lt13 : goal.returns-then-bad-lt13

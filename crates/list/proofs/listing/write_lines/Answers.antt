@@ -2,7 +2,6 @@
 use mathlib.Core.Path.{refl, sym, ◌∙◌}
 use Rattle.list.proofs.Endings.{nothing}
 use Rattle.list.proofs.Answers.{as_card, data_fits, first_fits}
-use borrow.Author.Rules.{rules}
 use Rattle.list.proofs.listing.write_lines.Goals as goal
 
 pub write_data-written-requires : goal.write_data-written-requires

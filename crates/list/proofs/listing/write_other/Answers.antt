@@ -2,7 +2,6 @@
 use mathlib.Core.Path.{refl, sym, ◌∙◌}
 use Rattle.list.proofs.Endings.{nothing}
 use Rattle.list.proofs.Answers.{trace_long, stop_long, as_trace, as_stop, as_none}
-use borrow.Author.Rules.{rules}
 use Rattle.list.proofs.listing.write_other.Goals as goal
 
 pub write_trace-written-requires : goal.write_trace-written-requires

@@ -1,6 +1,6 @@
 -- `list::marked::put_all`: the loop's invariant is that the lines of the cells passed stand in the output, and all else is as it was.
 -- Assumes nothing.
-use Prim.Native.Nat.{ℕ, ◌+◌, ◌-◌, ◌≤◌}
+use Prim.Native.Nat.{ℕ, ◌+◌, ◌≤◌}
 use mathlib.Core.Path.{◌≡◌, refl, sym, ap, subst, ◌∙◌}
 use mathlib.Core.List.{List}
 use native.Mathlib.Omega.{arith}
@@ -11,7 +11,6 @@ use Rattle.octets.specs.Put.{splice}
 use Rattle.octets.proofs.Joins.{Put, put_nothing, put_part}
 use Rattle.list.specs.Marked.{line_of, lines_upto}
 use Rattle.list.proofs.CellLines.{upto_more, length_more, upto_short, upto_all}
-use borrow.Author.Rules.{rules}
 use Rattle.list.proofs.marked.put_all.Goals as goal
 use Rattle.list.proofs.marked.put_all.Goals.{Start}
 

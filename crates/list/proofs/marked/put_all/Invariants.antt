@@ -1,17 +1,11 @@
 -- `list::marked::put_all`: the loop's invariant is that the lines of the cells passed stand in the output, and all else is as it was.
 -- Assumes nothing.
-use Prim.Native.Nat.{ℕ, ◌+◌, ◌-◌, ◌≤◌}
-use mathlib.Core.Path.{◌≡◌, refl, sym, ap, subst, ◌∙◌}
-use mathlib.Core.List.{List}
-use native.Mathlib.Omega.{arith}
+use Prim.Native.Nat.{◌-◌, ◌≤◌}
+use mathlib.Core.Path.{◌≡◌}
 use lib.ListN.{length}
-use Rattle.rules.specs.Drum.{view, cell_at}
-use Rattle.rules.specs.declared.Cell.{Cell}
-use Rattle.octets.specs.Put.{splice}
-use Rattle.octets.proofs.Joins.{Put, put_nothing, put_part}
-use Rattle.list.specs.Marked.{line_of, lines_upto}
-use Rattle.list.proofs.CellLines.{upto_more, length_more, upto_short, upto_all}
-use borrow.Author.Rules.{rules}
+use Rattle.rules.specs.Drum.{view}
+use Rattle.octets.proofs.Joins.{Put}
+use Rattle.list.specs.Marked.{lines_upto}
 use Rattle.list.proofs.marked.put_all.Given as goal
 
 abbrev pub invariant-loop-address : goal.invariant-loop-address

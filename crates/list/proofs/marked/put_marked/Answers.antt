@@ -12,7 +12,6 @@ use Rattle.list.specs.Listing.{cell_line}
 use Rattle.list.specs.Marked.{line_of}
 use Rattle.list.proofs.Lengths.{length_cell}
 use Rattle.list.proofs.CellLines.{line_none, line_some}
-use borrow.Author.Rules.{rules}
 use Rattle.list.proofs.marked.put_marked.Goals as goal
 use Rattle.list.proofs.marked.put_marked.Goals.{After-size_of-n}
 
@@ -55,6 +54,6 @@ returns c =
     record {
       size = s;
       written =
-        c.put_cell.ensures ∙ ap (λ (x : ℕ). splice a.at (cell_line a.address x) a.out.now) c.word.ensures
-            ∙ ap (λ (l : List ℕ). splice a.at l a.out.now) (sym w);
+          c.put_cell.ensures ∙ ap (λ (x : ℕ). splice a.at (cell_line a.address x) a.out.now) c.word.ensures
+          ∙ ap (λ (l : List ℕ). splice a.at l a.out.now) (sym w);
     }

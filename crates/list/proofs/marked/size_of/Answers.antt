@@ -4,7 +4,6 @@ use lib.ListN.{length}
 use Rattle.rules.specs.declared.Cell.{Cell}
 use Rattle.list.specs.Marked.{line_of}
 use Rattle.list.proofs.CellLines.{no_address, no_word, whole_line}
-use borrow.Author.Rules.{rules}
 use Rattle.list.proofs.marked.size_of.Goals as goal
 
 pub returns-then-address-gt999 : goal.returns-then-address-gt999

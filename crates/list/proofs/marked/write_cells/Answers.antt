@@ -5,7 +5,6 @@ use Rattle.rules.specs.Drum.{view}
 use Rattle.card.proofs.Writes.{no_line}
 use Rattle.list.specs.Marked.{marked_lines}
 use Rattle.list.proofs.Endings.{all}
-use borrow.Author.Rules.{rules}
 use Rattle.list.proofs.marked.write_cells.Goals as goal
 
 pub returns-then-out-n : goal.returns-then-out-n

@@ -3,7 +3,6 @@ use mathlib.Core.Path.{refl}
 use native.Mathlib.Omega.{arith}
 use lib.ListN.{length, take, drop}
 use Rattle.octets.proofs.Joins.{put_begin, put_more, length_field}
-use borrow.Author.Rules.{rules}
 use Rattle.list.proofs.parts.put.Goals as goal
 
 pub returns : goal.returns

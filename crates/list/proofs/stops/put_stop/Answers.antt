@@ -7,7 +7,6 @@ use Rattle.rules.specs.Bytes.{bytes}
 use Rattle.octets.proofs.Joins.{part_begin, put_more}
 use Rattle.list.specs.Listing.{stop_line}
 use Rattle.list.proofs.Joins.{put_piece, length_piece}
-use borrow.Author.Rules.{rules}
 use Rattle.list.proofs.stops.put_stop.Goals as goal
 
 pub returns : goal.returns

@@ -4,7 +4,6 @@ use Rattle.list.specs.Listing.{stop_line}
 use Rattle.card.proofs.Writes.{no_line}
 use Rattle.list.proofs.Endings.{all}
 use Rattle.list.proofs.Lengths.{length_stop}
-use borrow.Author.Rules.{rules}
 use Rattle.list.proofs.stops.write_stop.Goals as goal
 
 pub returns-then-out-lt54 : goal.returns-then-out-lt54

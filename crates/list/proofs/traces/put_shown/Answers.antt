@@ -7,7 +7,6 @@ use Rattle.rules.specs.Bytes.{bytes}
 use Rattle.octets.proofs.Joins.{part_begin, put_more}
 use Rattle.list.specs.Listing.{shown_lines}
 use Rattle.list.proofs.Joins.{put_piece, length_piece}
-use borrow.Author.Rules.{rules}
 use Rattle.list.proofs.traces.put_shown.Goals as goal
 
 pub put-requires-6 : goal.put-requires-6

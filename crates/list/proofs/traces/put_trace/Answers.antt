@@ -3,7 +3,6 @@ use mathlib.Core.List.{List, ◌++◌}
 use mathlib.Core.Path.{refl, ap₂, ◌∙◌}
 use Prim.Native.Nat.{ℕ}
 use native.Mathlib.Omega.{arith}
-use borrow.Author.Rules.{rules}
 use Rattle.rules.specs.Bytes.{bytes}
 use Rattle.octets.specs.Put.{splice}
 use Rattle.octets.proofs.Joins.{part_begin, put_part}

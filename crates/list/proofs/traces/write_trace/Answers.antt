@@ -4,7 +4,6 @@ use Rattle.list.specs.Listing.{trace_lines}
 use Rattle.card.proofs.Writes.{no_line}
 use Rattle.list.proofs.Endings.{all}
 use Rattle.list.proofs.Lengths.{length_trace}
-use borrow.Author.Rules.{rules}
 use Rattle.list.proofs.traces.write_trace.Goals as goal
 
 pub returns-then-out-lt232 : goal.returns-then-out-lt232

@@ -1,13 +1,11 @@
 -- `making::card_from` meets its contract: before each turn the n cells from a on are marked. Assumes nothing.
-use Prim.Native.Nat.{◌-◌, ◌≤◌}
 use mathlib.Core.Path.{sym, ◌∙◌}
 use mathlib.Core.List.{List}
 use native.Mathlib.Omega.{arith}
-use borrow.Author.Rules.{rules}
 use borrow.Author.Tests.{not-true, not-false}
 use Rattle.rules.specs.Drum.{view}
 use Rattle.rules.specs.declared.Cell.{Cell}
-use Rattle.making.proofs.Ahead.{Marked, one_more, all_counted}
+use Rattle.making.proofs.Ahead.{one_more, all_counted}
 use Rattle.making.proofs.blocks.card_from.Goals as goal
 
 pub loop-n-init : goal.loop-n-init

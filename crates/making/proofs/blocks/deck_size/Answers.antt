@@ -1,12 +1,12 @@
 -- `making::deck_size` meets its contract: before each turn the bytes counted, with those of the cards ahead, are all. Assumes nothing.
-use Prim.Native.Nat.{◌+◌, ◌-◌, ◌*◌, ◌≤◌}
+use Prim.Native.Nat.{◌+◌, ◌≤◌}
 use mathlib.Core.Path.{◌≡◌, refl, sym, ap, ◌∙◌}
 use mathlib.Core.List.{List}
 use native.Mathlib.Omega.{arith}
 use Rattle.rules.specs.Drum.{view}
-use Rattle.rules.specs.Making.{Block, blocks_in}
+use Rattle.rules.specs.Making.{blocks_in}
 use Rattle.rules.specs.declared.Cell.{Cell}
-use Rattle.rules.proofs.Blocks.{Ahead, all_ahead}
+use Rattle.rules.proofs.Blocks.{all_ahead}
 use Rattle.rules.proofs.MadeSizes.{elevens, deck-bytes}
 use Rattle.making.proofs.Ahead.{passed, come_upon, none_ahead}
 use Rattle.making.proofs.blocks.deck_size.Goals as goal

@@ -1,6 +1,5 @@
 -- `making::write_card` meets its contract: the words gathered are those of the cells, and the writer is given fields in range and room.
 -- Assumes nothing.
-use borrow.Author.Rules.{rules}
 use Rattle.making.proofs.Writing.{card_stands}
 use Rattle.making.proofs.cards.write_card.Goals as goal
 

@@ -1,6 +1,6 @@
 -- `making::write_cards` meets its contract: before each turn what stands in the output, with the cards ahead behind it, is all cards.
 -- Assumes nothing.
-use Prim.Native.Nat.{◌+◌, ◌-◌, ◌*◌, ◌≤◌}
+use Prim.Native.Nat.{◌+◌, ◌*◌, ◌≤◌}
 use mathlib.Core.Path.{sym, ◌∙◌}
 use native.Mathlib.Omega.{arith}
 use lib.ListN.{length}
@@ -8,7 +8,7 @@ use Rattle.rules.specs.Drum.{view}
 use Rattle.rules.specs.Making.{neighbours}
 use Rattle.rules.proofs.Blocks.{run_inside, run_of}
 use Rattle.making.proofs.Ahead.{Next, come_upon}
-use Rattle.making.proofs.Writing.{Written, none_written, still_long, written_on, room_left, written_more, all_written}
+use Rattle.making.proofs.Writing.{none_written, still_long, written_on, room_left, written_more, all_written}
 use Rattle.making.proofs.cards.write_cards.Goals as goal
 use Rattle.making.proofs.cards.write_cards.Goals.{Else-n-eq0}
 
@@ -43,7 +43,9 @@ loop-a-preserved-then-n-eq0 c =
 pub write_card-requires : goal.write_card-requires
 write_card-requires c =
     let low = c.loop-a.invariant.1.low in
-    let upto = c.loop-a.invariant.1.upto in record { sound = c.requires.sound; block_fits = (
+    let upto = c.loop-a.invariant.1.upto in record {
+      sound = c.requires.sound;
+      block_fits = (
         omega (arith, low, upto),
         top (goal.at.write_card-requires c).Else-n-eq0,
         omega (arith, c.if-n-eq0.false),
@@ -51,7 +53,8 @@ write_card-requires c =
         omega (arith, upto),
         c.requires.problem_fits,
         room (goal.at.write_card-requires c).Else-n-eq0,
-      ) }
+      );
+    }
 
 pub loop-a-preserved : goal.loop-a-preserved
 loop-a-preserved c =

@@ -1,7 +1,6 @@
 -- `making::write_deck` meets its contract: the first-order card stands right behind the data cards. Assumes nothing.
 use Prim.Native.Nat.{◌≤◌}
 use native.Mathlib.Omega.{arith}
-use borrow.Author.Rules.{rules}
 use lib.ListN.{length}
 use Rattle.rules.specs.Drum.{view}
 use Rattle.rules.specs.Making.{blocks_in, deck_made}
