@@ -2,7 +2,7 @@
 use Prim.Native.Nat.{ℕ, zero, suc, ◌+◌, ◌-◌, ◌*◌, ◌/◌, ◌%◌, ◌^◌, ◌≤◌, ◌<◌}
 use mathlib.Core.Path.{◌≡◌, refl, sym, ap, subst, ◌∙◌}
 use mathlib.Core.Logic.{inl, inr}
-use native.Mathlib.Nat.{mul-le-mul, lt_of_not-le}
+use native.Mathlib.Nat.{lt_of_not-le}
 use native.Mathlib.Decide.{dec_le}
 use native.Mathlib.Omega.{arith}
 use Rattle.rules.specs.Words.{leading_in, exponent_in}
@@ -13,9 +13,8 @@ use Rattle.rules.proofs.Roots.{no_larger}
 use Rattle.rules.proofs.Words.{Full, number_full}
 use Rattle.number.specs.Steps.{Chosen, OneMore}
 use Rattle.number.proofs.Sizes.{moved}
-use borrow.Author.Rules.{rules}
-use Rattle.number.proofs.roots.root.Statement.{statement}
-use Rattle.number.proofs.roots.root.Tie as tie
+use Rattle.number.proofs.roots.root.Goals as goal
+use Rattle.number.proofs.roots.root.Goals.{Else-b-eq0}
 
 -- the digits of b, moved up by i places
 moved_up : (b i j : ℕ) → b < 10 ^ 10 → exponent_in b + 57 + 200 ≡ i + (j + j) → word_of (settled single 0 (root_halves single (b / 100 * 10 ^ i * 10 ^ (j + j)))) ≡ word_of (root_of single (value_in b))
@@ -25,15 +24,8 @@ moved_up b i j plus even =
     ap (λ (n : ℕ). word_of (settled single 0 (root_halves single n)))
     (ap (λ (m : ℕ). m * 10 ^ i * 10 ^ (j + j)) l ∙ moved (leading_in b) (exponent_in b) i j even)
 
-abbrev start_of : tie.Else1 → tie.Start
-start_of c = search
-
-digits : (c : tie.Else1) → Full (start_of c).args.b
-digits c = number_full (start_of c).args.b (start_of c).requires.0 c.if1.false
-
-returns : tie.Need-returns
-unfolding root_of settled root_below grown
-returns c = subst (λ (b : ℕ). Result 0 ≡ word_of (root_of single (value_in b))) (sym c.if1.true) refl
+digits : (c : Else-b-eq0) → Full c.args.b
+digits c = number_full c.args.b c.requires.0 c.if-b-eq0.false
 
 -- the digits moved up, and the scale
 module _ (b : ℕ) where
@@ -84,48 +76,20 @@ raised-fits b least few = either (dec_le (b % 2) 0)
         let is : raised b ≡ b / 100 * 10 ^ 8 = odd-unit b (omega (arith, lt_of_not-le g)) in
         (omega (arith, is), omega (arith, is))
 
-mul-n-3 : tie.Need-overflow-mul-n-3
-mul-n-3 c =
-    let start : tie.Start = search in
-    let digits : start.args.b / 100 * 10000000 ≤ 1000000000000000 = omega (arith, start.pre.1) in
-    let times : 1 + 9 * (start.args.b % 2) ≤ 10 = omega arith in
-    omega (arith, mul-le-mul digits times)
-
-abbrev some_of : tie.After-stepped → tie.Else1
-some_of c = search
-
-least : (c : tie.Else1) → 10 ^ 9 ≤ (start_of c).args.b
+least : (c : Else-b-eq0) → 10 ^ 9 ≤ c.args.b
 least c = omega (arith, (digits c).leading)
 
-stepped-requires : tie.Need-stepped-requires
-stepped-requires c κs =
-    let some : tie.Else1 = search in
-    (least some, (start_of some).pre.1, chosen (start_of some).args.b)
+pub returns-then-b-eq0 : goal.returns-then-b-eq0
+unfolding root_of settled root_below grown
+returns-then-b-eq0 c = subst (λ (b : ℕ). Result 0 ≡ word_of (root_of single (value_in b))) (sym c.if-b-eq0.true) refl
 
-even-root-requires : tie.Need-even-root-requires
-even-root-requires c κs =
-    let found : tie.After-stepped = search in
-    let some : tie.Else1 = search in
-    let f = raised-fits (start_of some).args.b (least some) (start_of some).pre.1 in
-    (f.0, f.1, found.stepped.ensures.some, found-fits (raised (start_of some).args.b) found.stepped.result (omega (arith, f.1)) found.stepped.ensures, omega arith)
+pub stepped-guess-requires : goal.stepped-guess-requires
+stepped-guess-requires c = (least (goal.at.stepped-guess-requires c).Else-b-eq0, c.requires.1, chosen c.args.b)
 
-returns-2 : tie.Need-returns-2
-returns-2 c =
-    let start : tie.Start = search in
-    c.even-root.ensures ∙ same-root start.args.b start.pre.1
+pub even_root-requires : goal.even_root-requires
+even_root-requires c =
+    let f = raised-fits c.args.b (least (goal.at.even_root-requires c).Else-b-eq0) c.requires.1 in
+    (f.0, f.1, c.stepped-guess.ensures.some, found-fits (raised c.args.b) c.stepped-guess.result (omega (arith, f.1)) c.stepped-guess.ensures, omega arith)
 
-pub root-spec : {M : Type 1} → statement M
-root-spec =
-    tie.close
-    (tie.spec
-    returns
-    (λ c. search rules)
-    (λ c. search rules)
-    (λ c. search rules)
-    mul-n-3
-    (λ c. search rules)
-    (λ c. search rules)
-    stepped-requires
-    (λ c. search rules)
-    even-root-requires
-    returns-2)
+pub returns : goal.returns
+returns c = c.even_root.ensures ∙ same-root c.args.b c.requires.1

@@ -10,9 +10,7 @@ use Rattle.rules.specs.Arithmetic.{word_of}
 use Rattle.rules.proofs.Sums.{sum_swaps}
 use Rattle.rules.proofs.Words.{number_full, number_word}
 use Rattle.number.specs.Asked.{Aligned}
-use borrow.Author.Rules.{rules}
-use Rattle.number.proofs.sums.plus.Statement.{statement}
-use Rattle.number.proofs.sums.plus.Tie as tie
+use Rattle.number.proofs.sums.plus.Goals as goal
 
 taken-apart : (a b s t : ℕ) → is_number a ≡ true → s ≤ 1 → t ≤ 1 → exponent_in b ≤ exponent_in a → Aligned s (leading_in a) (exponent_in a) t (leading_in b) (exponent_in b)
 taken-apart a b s t na ls lt order =
@@ -26,22 +24,17 @@ taken-apart a b s t na ls lt order =
       order = order;
     }
 
-aligned-requires : tie.Need-aligned-requires
-aligned-requires c κs =
-    let start : tie.Start = search in
-    let a = start.args in
-    let p = start.pre in
-    taken-apart a.b a.a a.t (sign_in a.a) p.1 p.2 (omega (arith, number_word a.a p.0)) (omega (arith, c.if1.true))
+pub aligned-requires : goal.aligned-requires
+aligned-requires c =
+    let a = c.args in
+    let p = c.requires in
+    taken-apart a.b a.a a.t (sign_in a.a) p.1 p.2 (omega (arith, number_word a.a p.0)) (omega (arith, c.if-x-y.true))
 
-returns : tie.Need-returns
-returns c = c.aligned.ensures ∙ ap word_of (sum_swaps single _ _ _ _)
+pub returns-then-x-y : goal.returns-then-x-y
+returns-then-x-y c = c.aligned.ensures ∙ ap word_of (sum_swaps single _ _ _ _)
 
-aligned-requires-2 : tie.Need-aligned-requires-2
-aligned-requires-2 c κs =
-    let start : tie.Start = search in
-    let a = start.args in
-    let p = start.pre in
-    taken-apart a.a a.b (sign_in a.a) a.t p.0 (omega (arith, number_word a.a p.0)) p.2 c.if1.false
-
-pub plus-spec : {M : Type 1} → statement M
-plus-spec = tie.close (tie.spec aligned-requires returns aligned-requires-2 (λ c. search rules))
+pub aligned-requires-2 : goal.aligned-requires-2
+aligned-requires-2 c =
+    let a = c.args in
+    let p = c.requires in
+    taken-apart a.a a.b (sign_in a.a) a.t p.0 (omega (arith, number_word a.a p.0)) p.2 c.if-x-y.false
