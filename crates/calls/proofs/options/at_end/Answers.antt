@@ -3,7 +3,6 @@ use mathlib.Core.Path.{sym, ap, ◌∙◌}
 use mathlib.Core.Bool.{Bool}
 use Rattle.rules.specs.Words.{pick}
 use Rattle.calls.specs.Words.{spoilt_of}
-use borrow.Author.Rules.{rules}
 use Rattle.calls.proofs.options.at_end.Goals as goal
 
 pub returns-then-lacks_first : goal.returns-then-lacks_first

@@ -1,5 +1,4 @@
 -- `calls::form_of` meets its contract, command by command. Assumes nothing.
-use borrow.Author.Rules.{rules}
 use Rattle.calls.proofs.options.form_of.Goals as goal
 
 pub returns-in-Session : goal.returns-in-Session

@@ -1,7 +1,6 @@
 -- `calls::lacks_first` meets its contract: a call that is spoilt already lacks nothing more. Assumes nothing.
 use mathlib.Core.Path.{sym, ap, ◌∙◌}
 use mathlib.Core.Bool.{Bool}
-use borrow.Author.Rules.{rules}
 use borrow.Author.Tests.{not-true, not-false}
 use Rattle.rules.specs.Words.{both}
 use Rattle.calls.specs.Words.{is_due}

@@ -3,7 +3,6 @@ use mathlib.Core.Path.{sym, ap, ◌∙◌}
 use mathlib.Core.Bool.{Bool}
 use Rattle.rules.specs.Words.{pick}
 use Rattle.calls.specs.Words.{form_of, spoilt_of}
-use borrow.Author.Rules.{rules}
 use Rattle.calls.proofs.options.start_of.Goals as goal
 
 pub returns-then-is_missing : goal.returns-then-is_missing

@@ -2,7 +2,6 @@
 use mathlib.Core.Path.{ap}
 use mathlib.Core.Bool.{Bool}
 use Rattle.rules.specs.declared.Switches.{Switches}
-use borrow.Author.Rules.{rules}
 use Rattle.calls.proofs.options.switches_of.Goals as goal
 
 pub returns : goal.returns

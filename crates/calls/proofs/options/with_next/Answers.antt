@@ -3,7 +3,6 @@ use mathlib.Core.Path.{◌≡◌, sym, ap, ◌∙◌}
 use mathlib.Core.Bool.{Bool}
 use Rattle.rules.specs.Words.{pick}
 use Rattle.calls.specs.Words.{trouble_of, with_word, spoilt_of, is_fine}
-use borrow.Author.Rules.{rules}
 use Rattle.calls.proofs.options.with_next.Goals as goal
 use Rattle.calls.proofs.options.with_next.Goals.{After-is_fine}
 

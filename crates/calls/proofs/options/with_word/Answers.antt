@@ -1,5 +1,4 @@
 -- `calls::with_word` meets its contract, word by word. Assumes nothing.
-use borrow.Author.Rules.{rules}
 use Rattle.calls.proofs.options.with_word.Goals as goal
 
 pub returns-in-Traced : goal.returns-in-Traced

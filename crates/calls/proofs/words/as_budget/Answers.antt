@@ -1,5 +1,4 @@
 -- `calls::as_budget` meets its contract: a number is taken, and what is none stays so. Assumes nothing.
-use borrow.Author.Rules.{rules}
 use Rattle.calls.proofs.words.as_budget.Goals as goal
 
 pub returns-in-Value : goal.returns-in-Value

@@ -1,8 +1,7 @@
 -- `calls::asked_by` meets its contract: the words are tried one after another, and behind a mark the number is read. Assumes nothing.
-use mathlib.Core.Path.{◌≡◌, refl, sym, ap, ◌∙◌}
+use mathlib.Core.Path.{sym, ap, ◌∙◌}
 use Rattle.rules.specs.Bytes.{bytes}
 use Rattle.calls.specs.Words.{as_budget, as_first, as_problem, asked_by}
-use borrow.Author.Rules.{rules}
 use Rattle.calls.proofs.words.asked_by.Goals as goal
 
 pub returns-then-is_same : goal.returns-then-is_same

@@ -1,7 +1,6 @@
 -- `calls::begins` meets its contract: a shorter word does not begin with the mark, and of another as many bytes are compared. Assumes nothing.
 use mathlib.Core.Path.{sym}
 use native.Mathlib.Numerals.{unary_clauses}
-use borrow.Author.Rules.{rules}
 use Rattle.calls.proofs.Letters.{begins_not}
 use Rattle.calls.proofs.words.begins.Goals as goal
 

@@ -1,5 +1,4 @@
 -- `calls::behind_names` meets its contract, command by command. Assumes nothing.
-use borrow.Author.Rules.{rules}
 use Rattle.calls.proofs.words.behind_names.Goals as goal
 
 pub returns-in-New : goal.returns-in-New

@@ -1,6 +1,5 @@
 -- `calls::behind_new` meets its contract, by its test. Assumes nothing.
 use borrow.Author.Tests.{lt-ltb, le-ltb}
-use mathlib.Core.Path.{refl}
 use Rattle.calls.proofs.words.behind_new.Goals as goal
 
 pub returns-then-count-gt3 : goal.returns-then-count-gt3

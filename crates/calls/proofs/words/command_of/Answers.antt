@@ -1,7 +1,6 @@
 -- `calls::command_of` meets its contract: the words are tried one after another. Assumes nothing.
-use mathlib.Core.Path.{◌≡◌, refl, sym, ◌∙◌}
+use mathlib.Core.Path.{sym, ◌∙◌}
 use Rattle.calls.specs.Words.{command_of}
-use borrow.Author.Rules.{rules}
 use Rattle.rules.specs.Bytes.{bytes}
 use Rattle.calls.proofs.words.command_of.Goals as goal
 

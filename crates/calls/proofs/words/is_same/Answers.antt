@@ -1,11 +1,7 @@
 -- `calls::is_same` meets its contract: what is left of the two words is the same just where they are. Assumes nothing.
-use mathlib.Core.Path.{◌≡◌, refl, sym, ◌∙◌}
-use Prim.Native.Nat.{◌≤◌, ◌-◌}
+use mathlib.Core.Path.{refl, sym, ◌∙◌}
 use native.Mathlib.Omega.{arith}
-use lib.ListN.{length, drop}
-use Rattle.calls.specs.Words.{same_bytes}
 use Rattle.calls.proofs.Letters.{same_not, same_differs, same_more, same_end}
-use borrow.Author.Rules.{rules}
 use Rattle.calls.proofs.words.is_same.Goals as goal
 
 pub returns-then-a-b : goal.returns-then-a-b

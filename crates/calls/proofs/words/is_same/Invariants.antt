@@ -1,11 +1,8 @@
 -- `calls::is_same` meets its contract: what is left of the two words is the same just where they are. Assumes nothing.
-use mathlib.Core.Path.{◌≡◌, refl, sym, ◌∙◌}
+use mathlib.Core.Path.{◌≡◌}
 use Prim.Native.Nat.{◌≤◌, ◌-◌}
-use native.Mathlib.Omega.{arith}
 use lib.ListN.{length, drop}
 use Rattle.calls.specs.Words.{same_bytes}
-use Rattle.calls.proofs.Letters.{same_not, same_differs, same_more, same_end}
-use borrow.Author.Rules.{rules}
 use Rattle.calls.proofs.words.is_same.Given as goal
 
 abbrev pub invariant-loop-i : goal.invariant-loop-i

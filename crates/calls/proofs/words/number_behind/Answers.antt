@@ -1,6 +1,5 @@
 -- `calls::number_behind` meets its contract: behind all of a shorter word there is no number. Assumes nothing.
 use mathlib.Core.Path.{ap, ◌∙◌}
-use borrow.Author.Rules.{rules}
 use Rattle.calls.specs.Words.{capped_number}
 use Rattle.calls.proofs.Letters.{behind_all, behind_none}
 use Rattle.calls.proofs.words.number_behind.Goals as goal
