@@ -4,7 +4,7 @@
 
 mod names;
 
-ghost use Rattle.io.specs.Counts.{IsPrefixLen};
+ghost use Rattle.says.specs.Counts.{IsPrefixLen};
 ghost use Rattle.std.specs.Prelude.{◌≡◌, false, IfOk};
 
 use octets::lesser;

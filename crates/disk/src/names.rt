@@ -1,6 +1,6 @@
 // Names of files as bytes in a room.
 ghost use Rattle.std.specs.Prelude.{◌≡◌, ◌≤◌, ◌-◌, length, replicate, map};
-ghost use Rattle.io.specs.Counts.{IsPrefixLen};
+ghost use Rattle.says.specs.Counts.{IsPrefixLen};
 ghost use Rattle.disk.specs.Names.{with_part, behind_part, beside_room, beside_size, ended_path, Ended, letter_of, with_end, six_marks};
 
 use octets::{copy, lesser};
