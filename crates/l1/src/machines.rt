@@ -160,7 +160,9 @@ fn run_on(
     }
     let before = held.state;
     let mut out = cards_room();
-    let g = run_as(rt, texts, &mut drum, &mut marks, &mut out, deck, before, options);
+    let g = run_as(
+        rt, texts, &mut drum, &mut marks, &mut out, deck, before, options,
+    );
     if !g.sent {
         says::kept(texts, path);
         return;
@@ -195,12 +197,7 @@ fn finish(
 }
 
 // The deck that the word behind the machine file's name names. A machine file that is a link is not taken.
-fn deck_for(
-    rt: &(impl Files + Env),
-    texts: &impl Print,
-    path: &[u8],
-    room: &mut [u8],
-) -> Filled
+fn deck_for(rt: &(impl Files + Env), texts: &impl Print, path: &[u8], room: &mut [u8]) -> Filled
     ensures { IsPrefixLen result.count room.new }
 {
     let none = Filled {
@@ -221,7 +218,12 @@ fn deck_for(
 }
 
 // Load on the machine file at path, with the deck that the next word names.
-pub fn load(rt: &(impl Files + Env + Print + RandomSource), texts: &impl Print, path: &[u8], options: Options) {
+pub fn load(
+    rt: &(impl Files + Env + Print + RandomSource),
+    texts: &impl Print,
+    path: &[u8],
+    options: Options,
+) {
     let mut room = deck_room();
     let deck = deck_for(rt, texts, path, &mut room);
     if deck.good {
@@ -231,7 +233,12 @@ pub fn load(rt: &(impl Files + Env + Print + RandomSource), texts: &impl Print, 
 }
 
 // Run on the machine file at path, with the deck that the next word names.
-pub fn run(rt: &(impl Files + Env + Print + RandomSource), texts: &impl Print, path: &[u8], options: Options) {
+pub fn run(
+    rt: &(impl Files + Env + Print + RandomSource),
+    texts: &impl Print,
+    path: &[u8],
+    options: Options,
+) {
     let mut room = deck_room();
     let deck = deck_for(rt, texts, path, &mut room);
     if deck.good {
@@ -258,12 +265,7 @@ fn make(rt: &impl Files, texts: &impl Print, path: &[u8], drum: &[u64]) -> bool 
 }
 
 // The text of cells at path, onto a drum.
-fn fill_drum(
-    rt: &impl Files,
-    texts: &impl Print,
-    drum: &mut [u64],
-    path: &[u8],
-) -> bool {
+fn fill_drum(rt: &impl Files, texts: &impl Print, drum: &mut [u64], path: &[u8]) -> bool {
     let mut room = text_room();
     let x = read_whole(rt, texts, &mut room, path);
     if !x.good {

@@ -48,13 +48,7 @@ pub fn send_cells(
 }
 
 // The Z card of a run, or the line of one that was refused at its entry. It answers whether it was written.
-pub fn tell(
-    rt: &impl Print,
-    texts: &impl Print,
-    ending: Ending,
-    state: State,
-    count: u64,
-) -> bool
+pub fn tell(rt: &impl Print, texts: &impl Print, ending: Ending, state: State, count: u64) -> bool
     requires { may_close ending state count ≡ true }
 {
     let mut text = [0u8; 64];
