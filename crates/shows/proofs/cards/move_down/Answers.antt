@@ -9,8 +9,7 @@ use lib.ListN.{length, get_or, drop, set, length-set, length-drop}
 use lib.Seq.{paste, paste-zero, drop-paste, get_or-drop}
 use Rattle.octets.proofs.Copies.{copy_more}
 use borrow.Author.Rules.{rules}
-use Rattle.shows.proofs.cards.move_down.Statement.{statement}
-use Rattle.shows.proofs.cards.move_down.Tie as tie
+use Rattle.shows.proofs.cards.move_down.Goals as goal
 
 -- what stands behind the bytes passed is the old
 kept : (old room : List ℕ) (from i : ℕ) → i ≤ length (drop from old) → room ≡ paste old 0 (drop from old) i → get_or room (from + i) 0 ≡ get_or (drop from old) i 0
@@ -34,49 +33,20 @@ moved old room from i l h e =
     ap (λ (k : ℕ). set room k (get_or room (from + i) 0)) (sym (zero-add i))
     ∙ copy_more old (drop from old) 0 i e (get_or room (from + i) 0) (kept old room from i (omega arith) e) (omega arith) l
 
-abbrev invariant-loop : tie.invariant-loop
-invariant-loop room₀ from to n i₀ room i = (i ≤ n) × (length room ≡ length room₀) × (room ≡ paste room₀ 0 (drop from room₀) i)
+pub loop-i-init : goal.loop-i-init
+loop-i-init c = (omega arith, refl, paste-zero c.args.room.now 0 (drop c.args.from c.args.room.now))
 
-abbrev decreases-loop : tie.decreases-loop
-decreases-loop room₀ from to n i₀ room i = n - i
-
-loop-holds : tie.Need-loop-init invariant-loop decreases-loop
-loop-holds c =
-    let start : tie.Start invariant-loop decreases-loop = search in
-    (omega arith, refl, paste-zero start.args.room.now 0 (drop start.args.from start.args.room.now))
-
-loop-again : tie.Need-loop-preserved invariant-loop decreases-loop
-loop-again c =
-    let at : tie.At-loop invariant-loop decreases-loop = search in
-    let start : tie.Start invariant-loop decreases-loop = search in
-    let old = start.args.room.now in
-    let l : at.loop.i < length (drop start.args.from old) = omega (arith, length-drop start.args.from old, start.pre) in (
+pub loop-i-preserved : goal.loop-i-preserved
+loop-i-preserved c =
+    let old = c.args.room.now in
+    let l : c.loop-i.i < length (drop c.args.from old) = omega (arith, length-drop c.args.from old, c.requires) in (
       omega arith,
-      simp length-set at.loop.inv.1,
-      moved old at.loop.room start.args.from at.loop.i l (omega (arith, start.pre)) at.loop.inv.2,
+      simp length-set c.loop-i.invariant.1,
+      moved old c.loop-i.room c.args.from c.loop-i.i l (omega (arith, c.requires)) c.loop-i.invariant.2,
     )
 
-returns : tie.Need-returns invariant-loop decreases-loop
+pub returns : goal.returns
 returns c =
-    let at : tie.At-loop invariant-loop decreases-loop = search in
-    let start : tie.Start invariant-loop decreases-loop = search in
-    let old = start.args.room.now in
-    let e : at.loop.i ≡ start.args.to - start.args.from = omega (arith, at.loop.inv.0) in
-    at.loop.inv.2 ∙ ap (λ (k : ℕ). paste old 0 (drop start.args.from old) k) e
-
-pub move_down_spec : {M : Type 1} → statement M
-move_down_spec =
-    tie.close
-    (tie.spec
-    invariant-loop
-    decreases-loop
-    (λ c. search rules)
-    loop-holds
-    (λ c. search rules)
-    (λ c. search rules)
-    (λ c. search rules)
-    (λ c. search rules)
-    (λ c. search rules)
-    loop-again
-    (λ c. search rules)
-    returns)
+    let old = c.args.room.now in
+    let e : c.loop-i.i ≡ c.args.to - c.args.from = omega (arith, c.loop-i.invariant.0) in
+    c.loop-i.invariant.2 ∙ ap (λ (k : ℕ). paste old 0 (drop c.args.from old) k) e
