@@ -1,38 +1,53 @@
 # Checks that tests/all counts, beside those of tests/recorded.sh and tests/tool.sh. Read with `.` behind tests/kit.sh, at the top of the
 # repository. Where face is set, the C programs are those with that ending: tests/self.sh tries the checks with libraries that do nothing.
 
-# expected: the crates, and how many wrong programs each has, are those of tests/expected, so that none can go unseen.
+# expected: the crates, and how many wrong programs each has, are those of tests/expected (L1_EXPECTED names another list), so that none can
+# go unseen.
 expected() {
-    sed -n 's/^\([a-z0-9_]*\):.*/\1/p' crates.txt | while read -r name; do
+    list=${L1_EXPECTED:-tests/expected}
+    sed -n 's/^\([a-z0-9_]*\)\( staticlib\)\{0,1\}:.*/\1/p' crates.txt | while read -r name; do
         echo "$name $(find "crates/$name/must-fail" -name '*.edit' 2>/dev/null | grep -c .)"
-    done | diff tests/expected - && awk '{ n += $2 } END { print "expected: " NR " crates, " n " wrong programs" }' tests/expected
+    done | diff "$list" - && awk '{ n += $2 } END { print "expected: " NR " crates, " n " wrong programs" }' "$list"
 }
 
-# proofs: rt prove, from nothing: as many crates as tests/expected has. Sets proved and unproved. rt removes target/, so what it says is kept
-# elsewhere until it is read.
-proofs() {
+# gate: `rt ci`, as it stands, over the whole checkout: each crate of tests/expected is proved, with as many wrong programs refused as stand
+# there, none of them bad, and none is lost. Sets passed and failed: crates proved and wrong programs refused, and what was not. What rt says
+# is kept outside of the checkout until it is read.
+gate() {
     scratch=$(mktemp -d) || exit 2
-    { . tests/memory.sh; rt prove 2>&1; echo $? >"$scratch/status"; } | tee "$scratch/said"
+    {
+        rt ci 2>&1
+        echo $? >"$scratch/status"
+    } | tee "$scratch/said"
     status=$(cat "$scratch/status")
-    proved=$(sed -n '$s/^rt: ok, \([0-9]*\) crates proved.*/\1/p' "$scratch/said")
-    unproved=$(grep -c 'NOT PROVED' "$scratch/said")
+    counts=$(sed -n '$s/^\([0-9]*\) passed, \([0-9]*\) failed$/\1 \2/p' "$scratch/said")
+    bad=$(sed -n 's/^rt: ok; .*; must-fail edits: [^;]*, \([0-9]*\) bad.*/\1/p' "$scratch/said")
+    of_gate <"$scratch/said" >"$scratch/counted"
+    diff tests/expected "$scratch/counted" >"$scratch/lost"
+    lacks=$?
+    sed -n 's/^< /gate: expected: /p; s/^> /gate: found: /p' "$scratch/lost"
+    grep -q '^rt: ok; ' "$scratch/said" || lacks=1
+    [ "${bad:-0}" -eq 0 ] || echo "gate: $bad bad wrong programs"
     rm -r "$scratch"
-    proved=${proved:-0}
-    [ "$status" -eq 0 ] && [ "$unproved" -eq 0 ] && [ "$proved" -eq "$(grep -c . tests/expected)" ] && return
-    [ "$unproved" -gt 0 ] || unproved=1
+    passed=${counts% *} failed=${counts#* }
+    passed=${passed:-0} failed=$((${failed:-1} + ${bad:-0}))
+    [ "$failed" -eq 0 ] && [ "$status" -eq 0 ] && [ "$lacks" -eq 0 ] &&
+        [ "$passed" -eq "$(awk '{ n += 1 + $2 } END { print n + 0 }' tests/expected)" ] && return
+    [ "$failed" -gt 0 ] || failed=1
     return 1
 }
 
-# wrong_programs [PID]: as many are refused as tests/expected has, and all; where a process is named, it is the one that tries them. Sets
-# refused and survived.
-wrong_programs() {
-    if [ $# -eq 1 ]; then wait "$1"; else tests/wrong.sh; fi
-    counts=$(sed -n '$s/^wrong: \([0-9]*\) refused, \([0-9]*\) not$/\1 \2/p' "${L1_LOGS:-target/must-fail}/counted")
-    refused=${counts% *} survived=${counts#* }
-    refused=${refused:-0} survived=${survived:-0}
-    [ "$survived" -eq 0 ] && [ "$refused" -eq "$(awk '{ n += $2 } END { print n }' tests/expected)" ] && return
-    [ "$survived" -gt 0 ] || survived=1
-    return 1
+# of_gate: of what rt ci says, the crates that are proved, in the order of tests/expected, each with the number of its wrong programs that are
+# refused, as they stand there; then any other crate.
+of_gate() {
+    awk '
+        FNR == NR { order[++crates] = $1; next }
+        /^rt: [a-z0-9_]+ (proved|is kept: .*)$/ { proved[$2] = 1 }
+        /^rt: must-fail [a-z0-9_]+\/[^:]*\.edit: refused, / { split($3, at, "/"); if (!seen[$3]++) refused[at[1]]++ }
+        END {
+            for (i = 1; i <= crates; i++) if (order[i] in proved) { print order[i], refused[order[i]] + 0; delete proved[order[i]] }
+            for (name in proved) print name, refused[name] + 0
+        }' tests/expected -
 }
 
 # counted PROGRAM WHAT: a program that judges by itself ends by its own count, which says that it was gone through.

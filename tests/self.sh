@@ -19,18 +19,21 @@ fails() {
     echo "self: $what: the check does well"
 }
 
-# with_rt COMMAND: the command with an rt that ends well and does nothing.
+# with_rt FAULT COMMAND: the command with tests/self/wrong-rt in the place of rt, with one fault, or none where FAULT is empty.
 with_rt() (
-    mkdir -p "$made/idle" && cp tests/self/nothing "$made/idle/rt" || exit 2
-    export PATH="$(cd "$made/idle" && pwd -P):$PATH" L1_LOGS="$(pwd -P)/target/wrong-logs"
-    "$1"
+    mkdir -p "$made/idle" && cp tests/self/wrong-rt "$made/idle/rt" || exit 2
+    export PATH="$(cd "$made/idle" && pwd -P):$PATH" L1_FAULT="$1"
+    "$2"
 )
+
+# gate_with_none: what with_rt sees is the fault.
+gate_with_none() { ! with_rt '' gate; }
 
 # with_edit_lost COMMAND: the command where one wrong program more is expected than there is.
 with_edit_lost() (
-    rm -rf "$made/lost" && mkdir -p "$made/lost/tests" && cp crates.txt "$made/lost" && ln -s "$(pwd -P)/crates" "$made/lost/crates"
-    awk 'NR == 1 { $2++ } { print }' tests/expected >"$made/lost/tests/expected"
-    cd "$made/lost" && "$1"
+    awk 'NR == 1 { $2++ } { print }' tests/expected >"$made/self-expected"
+    export L1_EXPECTED="$made/self-expected"
+    "$1"
 )
 
 # with_other NAME PROGRAM COMMAND: the command with that program where the variable NAME says which.
@@ -69,8 +72,11 @@ with_make() (
 # answers_with_none: what with_make sees is the fault.
 answers_with_none() { ! with_make '' tests/tool.sh answers; }
 
-fails 'rt proves nothing' with_rt proofs
-fails 'rt refuses nothing' with_rt wrong_programs
+fails 'rt ci, no fault' gate_with_none
+for fault in nothing fails-at-the-end fails-quietly not-ok a-crate-unproved a-crate-lost a-crate-too-many nothing-refused one-not-refused one-lost \
+    one-in-anothers-place one-bad; do
+    fails "rt ci, $fault" with_rt "$fault" gate
+done
 fails 'a wrong program is lost' with_edit_lost expected
 for program in tests/self/nothing tests/self/refuses; do
     fails "listings, $program" with_other L1_KEYPUNCH "$program" listings

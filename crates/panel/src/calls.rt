@@ -59,8 +59,7 @@ fn why_barred(drum: &[u64], marks: &[u8], deck: &[u8]) -> Bar
 }
 
 // A load. Where it is refused, everything stays as it came.
-#[unsafe(no_mangle)]
-pub extern "C" fn l1_load(
+pub fn l1_load(
     drum: &mut [u64],
     marks: &mut [u8],
     deck: &[u8],
@@ -84,8 +83,7 @@ pub extern "C" fn l1_load(
 }
 
 // A run of orders up to a budget.
-#[unsafe(no_mangle)]
-pub extern "C" fn l1_run(
+pub fn l1_run(
     drum: &mut [u64],
     marks: &mut [u8],
     deck: &[u8],
@@ -124,8 +122,7 @@ fn making_told(x: Making) -> Made
 }
 
 // A load deck of the marked cells. Drum and marks are only read; where it is refused, the output stays as it came.
-#[unsafe(no_mangle)]
-pub extern "C" fn l1_make(
+pub fn l1_make(
     drum: &[u64],
     marks: &[u8],
     out: &mut [u8],

@@ -1,5 +1,7 @@
-// The C face: word arithmetic and the deck check here, load, run and make in calls, each under the C calling convention and for any operands.
-// include/l1.h declares what is exported.
+// What the C face answers: word arithmetic and the deck check here, load, run and make in calls, each for any operands, and in structs that C
+// can read. The crate panel_c exports each function under its name.
+#![tactic(auto)]
+
 mod calls;
 mod rows;
 
@@ -97,59 +99,51 @@ pub struct Made {
 }
 
 // Codes 1 to 5, on any two numbers of 64 bits.
-#[unsafe(no_mangle)]
-pub extern "C" fn l1_add(a: u64, b: u64) -> Summed
+pub fn l1_add(a: u64, b: u64) -> Summed
     ensures { result ≡ sum_told (summed a b (add_of a b)) }
 {
     sum_told(number::add(a, b))
 }
 
-#[unsafe(no_mangle)]
-pub extern "C" fn l1_sub(a: u64, b: u64) -> Summed
+pub fn l1_sub(a: u64, b: u64) -> Summed
     ensures { result ≡ sum_told (summed a b (sub_of a b)) }
 {
     sum_told(number::sub(a, b))
 }
 
-#[unsafe(no_mangle)]
-pub extern "C" fn l1_mpy(a: u64, b: u64) -> Word
+pub fn l1_mpy(a: u64, b: u64) -> Word
     ensures { result ≡ word_told (mpy_of a b) }
 {
     word_told(number::mpy(a, b))
 }
 
-#[unsafe(no_mangle)]
-pub extern "C" fn l1_div(a: u64, b: u64) -> Word
+pub fn l1_div(a: u64, b: u64) -> Word
     ensures { result ≡ word_told (div_of a b) }
 {
     word_told(number::div(a, b))
 }
 
-#[unsafe(no_mangle)]
-pub extern "C" fn l1_ngmpy(a: u64, b: u64) -> Word
+pub fn l1_ngmpy(a: u64, b: u64) -> Word
     ensures { result ≡ word_told (ngmpy_of a b) }
 {
     word_told(number::ngmpy(a, b))
 }
 
 // Codes 0 300 and 0 350.
-#[unsafe(no_mangle)]
-pub extern "C" fn l1_sqrt(b: u64) -> Word
+pub fn l1_sqrt(b: u64) -> Word
     ensures { result ≡ word_told (sqrt_of b) }
 {
     word_told(number::sqrt(b))
 }
 
-#[unsafe(no_mangle)]
-pub extern "C" fn l1_abs(b: u64) -> Word
+pub fn l1_abs(b: u64) -> Word
     ensures { result ≡ word_told (abs_of b) }
 {
     word_told(number::abs(b))
 }
 
 // Whether a deck keeps the card rules, for any bytes.
-#[unsafe(no_mangle)]
-pub extern "C" fn l1_deck(deck: &[u8]) -> Place
+pub fn l1_deck(deck: &[u8]) -> Place
     ensures { result ≡ place_told (deck_of deck.now) }
 {
     place_told(card::check_deck(deck))
