@@ -122,13 +122,7 @@ fn making_told(x: Making) -> Made
 }
 
 // A load deck of the marked cells. Drum and marks are only read; where it is refused, the output stays as it came.
-pub fn l1_make(
-    drum: &[u64],
-    marks: &[u8],
-    out: &mut [u8],
-    first: u64,
-    problem: u64,
-) -> Made
+pub fn l1_make(drum: &[u64], marks: &[u8], out: &mut [u8], first: u64, problem: u64) -> Made
     ensures { MakeTold (made (make_call drum.now marks.now out.old first problem)) out.new result }
 {
     making_told(making::make(drum, marks, out, first, problem))

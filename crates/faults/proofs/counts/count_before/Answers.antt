@@ -1,12 +1,11 @@
 -- `faults::counts::count_before` meets its contract: each turn passes one good card. Assumes nothing.
 use mathlib.Core.Path.{sym, ◌∙◌}
-use Prim.Native.Nat.{◌+◌, ◌-◌, ◌≤◌}
+use Prim.Native.Nat.{◌+◌, ◌≤◌}
 use native.Mathlib.Nat.{pos_of_ne-zero}
 use native.Mathlib.Omega.{arith}
 use lib.ListN.{length}
-use borrow.Author.Rules.{rules}
 use Rattle.rules.specs.Decks.{card_at, card_size}
-use Rattle.faults.proofs.Counted.{Counting, within, count_begin, count_end, count_none, count_more}
+use Rattle.faults.proofs.Counted.{within, count_begin, count_end, count_none, count_more}
 use Rattle.faults.proofs.counts.count_before.Goals as goal
 use Rattle.faults.proofs.counts.count_before.Goals.{Else-size-eq0}
 

@@ -1,7 +1,6 @@
 -- `faults::counts::size_at` meets its contract, by what the card is read as. Assumes nothing.
 use mathlib.Core.Path.{sym, ap, ◌∙◌}
 use Rattle.rules.specs.Decks.{card_size}
-use borrow.Author.Rules.{rules}
 use Rattle.faults.proofs.counts.size_at.Goals as goal
 
 pub returns-in-Data : goal.returns-in-Data

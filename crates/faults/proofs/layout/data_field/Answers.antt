@@ -1,6 +1,5 @@
 -- `faults::layout::data_field` meets its contract: its tests are those of the definition. Assumes nothing.
 use borrow.Author.Tests.{lt-ltb, le-ltb}
-use borrow.Author.Rules.{rules}
 use Rattle.faults.proofs.layout.data_field.Goals as goal
 
 pub returns-then-o-lt5 : goal.returns-then-o-lt5

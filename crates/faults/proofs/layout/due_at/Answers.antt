@@ -4,7 +4,6 @@ use mathlib.Core.Path.{sym, ap, ◌∙◌}
 use borrow.Author.Tests.{eq-eqb, ne_eqb}
 use Rattle.rules.specs.Cards.{sign_due}
 use Rattle.faults.specs.Sentences.{due_at}
-use borrow.Author.Rules.{rules}
 use Rattle.faults.proofs.layout.due_at.Goals as goal
 
 pub returns-then-o-eq13 : goal.returns-then-o-eq13

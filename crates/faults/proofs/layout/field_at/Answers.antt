@@ -3,7 +3,6 @@ use Prim.Native.Nat.{ℕ}
 use mathlib.Core.Path.{ap, ◌∙◌}
 use borrow.Author.Tests.{eq-eqb, ne_eqb, lt-ltb, le-ltb}
 use Rattle.faults.specs.Sentences.{data_field, field_at}
-use borrow.Author.Rules.{rules}
 use Rattle.faults.proofs.layout.field_at.Goals as goal
 
 pub returns-then-o-lt4 : goal.returns-then-o-lt4

@@ -1,7 +1,6 @@
 -- `faults::layout::highest_of` meets its contract: each arm is a case of the definition. Assumes nothing.
 use native.Mathlib.Nat.{le_of_suc-le-suc}
 use borrow.Author.Tests.{le-leb, lt-leb}
-use borrow.Author.Rules.{rules}
 use Rattle.faults.proofs.layout.highest_of.Goals as goal
 
 pub returns-in-49-to-53 : goal.returns-in-49-to-53

@@ -4,7 +4,6 @@ use native.Mathlib.Nat.{le_of_suc-le-suc}
 use native.Mathlib.Omega.{arith}
 use borrow.Author.Tests.{le-leb, lt-leb, ne_eqb}
 use Rattle.faults.specs.Sentences.{words_of}
-use borrow.Author.Rules.{rules}
 use Rattle.faults.proofs.layout.words_of.Goals as goal
 
 pub returns-in-88 : goal.returns-in-88

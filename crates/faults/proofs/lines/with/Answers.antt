@@ -1,7 +1,6 @@
 -- `faults::lines::with` meets its contract: what is copied is what there is room for. Assumes nothing.
 use native.Mathlib.Omega.{arith}
 use Rattle.faults.proofs.Says.{within, says_more}
-use borrow.Author.Rules.{rules}
 use Rattle.faults.proofs.lines.with.Goals as goal
 
 pub returns-then-at-gt256 : goal.returns-then-at-gt256

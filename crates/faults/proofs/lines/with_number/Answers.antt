@@ -1,7 +1,6 @@
 -- `faults::lines::with_number` meets its contract: the digits stand at the start of their room. Assumes nothing.
 use native.Mathlib.Omega.{arith}
 use Rattle.faults.proofs.Says.{adds_as, field_taken}
-use borrow.Author.Rules.{rules}
 use Rattle.faults.proofs.lines.with_number.Goals as goal
 
 pub returns : goal.returns

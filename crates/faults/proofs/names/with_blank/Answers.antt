@@ -4,7 +4,6 @@ use borrow.Author.Tests.{ne_eqb}
 use Rattle.rules.specs.Bytes.{bytes}
 use Rattle.faults.specs.Sentences.{numeral, blank_name}
 use Rattle.faults.proofs.Says.{adds_two, adds_as}
-use borrow.Author.Rules.{rules}
 use Rattle.faults.proofs.names.with_blank.Goals as goal
 
 pub returns-in-9 : goal.returns-in-9

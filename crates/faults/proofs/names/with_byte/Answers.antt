@@ -4,7 +4,6 @@ use borrow.Author.Tests.{ne_eqb, le-leb, lt-leb}
 use Rattle.rules.specs.Bytes.{bytes}
 use Rattle.faults.specs.Sentences.{byte_name}
 use Rattle.faults.proofs.Says.{adds_as}
-use borrow.Author.Rules.{rules}
 use Rattle.faults.proofs.names.with_byte.Goals as goal
 
 pub returns-then-b-eq43 : goal.returns-then-b-eq43

@@ -3,7 +3,6 @@ use mathlib.Core.Path.{sym, ap}
 use Rattle.rules.specs.Bytes.{bytes}
 use Rattle.faults.specs.Sentences.{due_name}
 use Rattle.faults.proofs.Says.{adds_two, adds_as}
-use borrow.Author.Rules.{rules}
 use Rattle.faults.proofs.names.with_due.Goals as goal
 
 pub returns-in-Digit : goal.returns-in-Digit

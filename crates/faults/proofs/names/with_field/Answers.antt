@@ -3,7 +3,6 @@ use mathlib.Core.Path.{sym, ap}
 use Rattle.rules.specs.Bytes.{bytes}
 use Rattle.faults.specs.Sentences.{field_name}
 use Rattle.faults.proofs.Says.{adds_as}
-use borrow.Author.Rules.{rules}
 use Rattle.faults.proofs.names.with_field.Goals as goal
 
 pub returns-in-Kind : goal.returns-in-Kind

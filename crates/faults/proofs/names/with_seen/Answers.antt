@@ -1,6 +1,5 @@
 -- `faults::names::with_seen` meets its contract: the byte stands right behind the text. Assumes nothing.
 use Rattle.faults.proofs.Says.{adds_two}
-use borrow.Author.Rules.{rules}
 use Rattle.faults.proofs.names.with_seen.Goals as goal
 
 pub returns : goal.returns

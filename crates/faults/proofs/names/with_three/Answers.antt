@@ -3,7 +3,6 @@ use mathlib.Core.Path.{◌∙◌}
 use Rattle.rules.proofs.Digits.{length_digits}
 use Rattle.octets.proofs.Joins.{put_all}
 use Rattle.faults.proofs.Says.{adds_as}
-use borrow.Author.Rules.{rules}
 use Rattle.faults.proofs.names.with_three.Goals as goal
 
 pub returns : goal.returns

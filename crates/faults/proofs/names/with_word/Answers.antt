@@ -4,7 +4,6 @@ use borrow.Author.Tests.{ne_eqb}
 use Rattle.rules.specs.Bytes.{bytes}
 use Rattle.faults.specs.Sentences.{word_name}
 use Rattle.faults.proofs.Says.{adds_as}
-use borrow.Author.Rules.{rules}
 use Rattle.faults.proofs.names.with_word.Goals as goal
 
 pub returns-in-0 : goal.returns-in-0

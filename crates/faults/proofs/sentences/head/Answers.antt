@@ -2,7 +2,6 @@
 use mathlib.Core.List.{[]}
 use Rattle.rules.specs.Bytes.{bytes}
 use Rattle.faults.specs.Sentences.{head_of}
-use borrow.Author.Rules.{rules}
 use Rattle.faults.proofs.sentences.head.Goals as goal
 
 pub returns : goal.returns

@@ -4,7 +4,6 @@ use mathlib.Core.List.{◌++◌}
 use mathlib.Core.Path.{ap₂, ap, ◌∙◌}
 use Rattle.faults.specs.Sentences.{field_at, due_at, found, card_sentence}
 use Rattle.faults.proofs.Says.{said_as, heads}
-use borrow.Author.Rules.{rules}
 use Rattle.faults.proofs.sentences.of_byte.Goals as goal
 
 pub returns : goal.returns

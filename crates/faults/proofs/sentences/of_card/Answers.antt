@@ -1,6 +1,5 @@
 -- `faults::sentences::of_card` meets its contract: the sentence, and a line end. Assumes nothing.
 use Rattle.faults.specs.Sentences.{card_line}
-use borrow.Author.Rules.{rules}
 use Rattle.faults.proofs.sentences.of_card.Goals as goal
 
 pub returns : goal.returns

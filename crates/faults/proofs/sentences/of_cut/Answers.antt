@@ -5,7 +5,6 @@ use lib.ListN.{length}
 use Rattle.rules.specs.Bytes.{bytes}
 use Rattle.faults.specs.Sentences.{field_at, due_at, card_sentence}
 use Rattle.faults.proofs.Says.{said_as, heads}
-use borrow.Author.Rules.{rules}
 use Rattle.faults.proofs.sentences.of_cut.Goals as goal
 
 pub returns : goal.returns

@@ -3,7 +3,6 @@ use Prim.Native.Nat.{ℕ}
 use mathlib.Core.Path.{sym, ap, ◌∙◌}
 use Rattle.faults.specs.Sentences.{none_line, deck_line}
 use Rattle.faults.proofs.Says.{said_as, card_lines}
-use borrow.Author.Rules.{rules}
 use Rattle.faults.proofs.sentences.of_deck.Goals as goal
 
 pub returns-in-TooLong : goal.returns-in-TooLong

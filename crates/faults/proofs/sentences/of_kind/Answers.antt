@@ -6,7 +6,6 @@ use Rattle.faults.specs.Sentences.{head_of, found, card_sentence}
 use Rattle.faults.specs.declared.layout.Field.TheVariants.{Kind}
 use Rattle.faults.specs.declared.layout.Due.TheVariants.{Kinds}
 use Rattle.faults.proofs.Says.{said_as}
-use borrow.Author.Rules.{rules}
 use Rattle.faults.proofs.sentences.of_kind.Goals as goal
 
 pub returns : goal.returns

@@ -1,7 +1,6 @@
 -- `faults::sentences::of_long` meets its contract. Assumes nothing.
 use mathlib.Core.List.{[]}
 use Rattle.rules.specs.Bytes.{bytes}
-use borrow.Author.Rules.{rules}
 use Rattle.faults.proofs.sentences.of_long.Goals as goal
 
 pub returns : goal.returns

@@ -2,7 +2,6 @@
 use mathlib.Core.List.{append_assoc}
 use Rattle.rules.specs.Bytes.{bytes}
 use Rattle.faults.specs.Sentences.{none_sentence}
-use borrow.Author.Rules.{rules}
 use Rattle.faults.proofs.sentences.of_none.Goals as goal
 
 pub returns : goal.returns

@@ -5,7 +5,6 @@ use Rattle.rules.specs.Bytes.{bytes}
 use Rattle.faults.specs.Sentences.{field_at, highest, card_sentence}
 use Rattle.faults.specs.declared.layout.Due.TheVariants.{Upto}
 use Rattle.faults.proofs.Says.{said_as, heads}
-use borrow.Author.Rules.{rules}
 use Rattle.faults.proofs.sentences.of_place.Goals as goal
 
 pub returns : goal.returns

@@ -2,7 +2,6 @@
 use Rattle.rules.specs.Bytes.{bytes}
 use Rattle.faults.specs.Sentences.{card_sentence}
 use Rattle.faults.proofs.Says.{as_fault}
-use borrow.Author.Rules.{rules}
 use Rattle.faults.proofs.sentences.said_of.Goals as goal
 
 pub returns-in-UnknownKind : goal.returns-in-UnknownKind

@@ -5,7 +5,6 @@ use native.Mathlib.Omega.{arith}
 use lib.ListN.{length, take, drop, length-drop, drop_of_length-le}
 use lib.Seq.{take_all}
 use Rattle.faults.proofs.Says.{adds_as}
-use borrow.Author.Rules.{rules}
 use Rattle.faults.proofs.sentences.with_digits.Goals as goal
 
 pub returns-then-n-o : goal.returns-then-n-o

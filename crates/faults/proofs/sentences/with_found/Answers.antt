@@ -1,7 +1,6 @@
 -- `faults::sentences::with_found` meets its contract: text behind text. Assumes nothing.
 use Rattle.rules.specs.Bytes.{bytes}
 use Rattle.faults.proofs.Says.{adds_two}
-use borrow.Author.Rules.{rules}
 use Rattle.faults.proofs.sentences.with_found.Goals as goal
 
 pub returns : goal.returns

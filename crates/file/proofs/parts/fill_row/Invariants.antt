@@ -1,13 +1,10 @@
 -- `file::fill_row` meets its contract. The loop's invariant: the numbers passed stand at the row's start. Assumes nothing.
 use mathlib.Core.List.{List}
-use mathlib.Core.Path.{◌≡◌, refl, sym, ap, ◌∙◌}
-use Prim.Native.Nat.{ℕ, ◌*◌, ◌-◌, ◌≤◌}
-use native.Mathlib.Omega.{arith}
-use lib.ListN.{length, take, drop, length-set}
-use lib.Seq.{paste, paste-zero, drop-drop}
-use Rattle.file.specs.Files.{number_of, row_in}
-use Rattle.file.proofs.Files.{length_in, in-at}
-use Rattle.octets.proofs.Copies.{fill_more, fill_end}
+use mathlib.Core.Path.{◌≡◌}
+use Prim.Native.Nat.{ℕ, ◌-◌, ◌≤◌}
+use lib.ListN.{length, drop}
+use lib.Seq.{paste}
+use Rattle.file.specs.Files.{row_in}
 use Rattle.file.proofs.parts.fill_row.Given as goal
 
 -- what is to stand in the row

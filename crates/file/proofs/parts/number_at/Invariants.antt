@@ -1,15 +1,10 @@
 -- `file::number_at` meets its contract. The loop's invariant: the number of the bytes from place i up, and that it fits so many bytes.
 -- Assumes nothing.
-use borrow.Author.Rules.{rules}
-use mathlib.Core.Path.{◌≡◌, sym, ap, ap₂, ◌∙◌}
+use mathlib.Core.Path.{◌≡◌}
 use mathlib.Core.List.{List}
-use Prim.Native.Nat.{ℕ, suc, ◌+◌, ◌*◌, ◌-◌, ◌^◌, ◌≤◌, ◌<◌}
-use native.Mathlib.Nat.{pow-suc, pow-le-pow_right}
-use native.Mathlib.Omega.{arith}
-use lib.ListN.{length, get_or, take, drop, length-drop, drop_of_length-le}
-use lib.Seq.{length-take-le, get_or-take, get_or-drop}
+use Prim.Native.Nat.{ℕ, ◌-◌, ◌^◌, ◌≤◌, ◌<◌}
+use lib.ListN.{take, drop}
 use Rattle.file.specs.Files.{number_of}
-use Rattle.file.proofs.Files.{number_more}
 use Rattle.file.proofs.parts.number_at.Given as goal
 
 -- the eight bytes

@@ -1,12 +1,12 @@
 -- `file::put_number` meets its contract. The loop's invariant: the bytes passed stand in the output, and what is left of the number is
 -- above them. Assumes nothing.
 use mathlib.Core.Path.{◌≡◌, refl, sym, ap, ◌∙◌}
-use Prim.Native.Nat.{ℕ, ◌-◌, ◌%◌, ◌/◌, ◌≤◌}
+use Prim.Native.Nat.{ℕ, ◌%◌, ◌/◌}
 use native.Mathlib.Omega.{arith}
 use lib.ListN.{length, length-set}
-use lib.Seq.{paste, paste-zero}
+use lib.Seq.{paste-zero}
 use Rattle.file.specs.Files.{low_bytes}
-use Rattle.file.proofs.Files.{length_low, low_at, shifted, shifted_next}
+use Rattle.file.proofs.Files.{length_low, low_at, shifted_next}
 use Rattle.octets.proofs.Copies.{copy_more, copy_end}
 use Rattle.file.proofs.parts.put_number.Goals as goal
 

@@ -1,14 +1,9 @@
 -- `file::put_row` meets its contract. The loop's invariant: the numbers passed stand in the output. Assumes nothing.
-use mathlib.Core.List.{List}
-use mathlib.Core.Path.{◌≡◌, refl, sym, ap, ◌∙◌}
-use Prim.Native.Nat.{ℕ, ◌+◌, ◌*◌, ◌-◌, ◌≤◌}
-use native.Mathlib.Omega.{arith}
-use lib.ListN.{length, get_or, take}
-use lib.Seq.{length-take-le, take_all}
-use Rattle.file.specs.Files.{low_bytes, row_bytes}
-use Rattle.file.proofs.Files.{length_low, length-row, row_more}
+use mathlib.Core.Path.{◌≡◌}
+use Prim.Native.Nat.{◌-◌, ◌≤◌}
+use lib.ListN.{length, take}
+use Rattle.file.specs.Files.{row_bytes}
 use Rattle.octets.specs.Put.{splice}
-use Rattle.octets.proofs.Splices.{splice_more, splice_none}
 use Rattle.file.proofs.parts.put_row.Given as goal
 
 abbrev pub invariant-loop-i : goal.invariant-loop-i

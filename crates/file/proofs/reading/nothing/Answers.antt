@@ -1,7 +1,6 @@
 -- `file::nothing` meets its contract: beside a file that is not read stands the state of nine zeros. Assumes nothing.
 use mathlib.Core.Path.{ap}
 use mathlib.Core.Bool.{false}
-use borrow.Author.Rules.{rules}
 use Rattle.rules.specs.declared.State.{State}
 use Rattle.file.specs.declared.reading.Found.{Found}
 use Rattle.file.proofs.reading.nothing.Goals as goal

@@ -1,7 +1,6 @@
 -- `file::end_number` meets its contract: nothing was begun, there is no such place, or the number is stored. Assumes nothing.
 use mathlib.Core.Path.{refl, sym}
 use native.Mathlib.Omega.{arith}
-use borrow.Author.Rules.{rules}
 use borrow.Author.Tests.{not-true, not-false}
 use lib.Seq.{set_out}
 use Rattle.file.proofs.texts.end_number.Goals as goal

@@ -1,9 +1,8 @@
 -- `file::put_cells` meets its contract. The loop's invariant: the cells passed stand at the drum's start. Assumes nothing.
 use mathlib.Core.Path.{◌≡◌, refl}
-use Prim.Native.Nat.{◌-◌, ◌≤◌}
 use native.Mathlib.Omega.{arith}
 use lib.ListN.{length, length-set}
-use lib.Seq.{paste, paste-zero}
+use lib.Seq.{paste-zero}
 use Rattle.octets.proofs.Copies.{fill_more, fill_end}
 use Rattle.file.proofs.texts.put_cells.Goals as goal
 

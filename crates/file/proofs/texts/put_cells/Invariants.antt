@@ -1,10 +1,8 @@
 -- `file::put_cells` meets its contract. The loop's invariant: the cells passed stand at the drum's start. Assumes nothing.
-use mathlib.Core.Path.{◌≡◌, refl}
+use mathlib.Core.Path.{◌≡◌}
 use Prim.Native.Nat.{◌-◌, ◌≤◌}
-use native.Mathlib.Omega.{arith}
-use lib.ListN.{length, length-set}
-use lib.Seq.{paste, paste-zero}
-use Rattle.octets.proofs.Copies.{fill_more, fill_end}
+use lib.ListN.{length}
+use lib.Seq.{paste}
 use Rattle.file.proofs.texts.put_cells.Given as goal
 
 abbrev pub invariant-loop-i : goal.invariant-loop-i

@@ -1,6 +1,5 @@
 -- `file::read_cells` meets its contract: the drum has another length, the text does not fill it, or it does. Assumes nothing.
 use mathlib.Core.Path.{sym, ◌∙◌}
-use borrow.Author.Rules.{rules}
 use borrow.Author.Tests.{not-true, not-false}
 use Rattle.file.proofs.Wholes.{bad_length, bad_text, was_filled}
 use Rattle.file.proofs.texts.read_cells.Goals as goal

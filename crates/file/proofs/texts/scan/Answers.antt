@@ -1,12 +1,9 @@
 -- `file::scan` meets its contract: at each byte what is left of the text has the numbers of the whole. Assumes nothing.
 use mathlib.Core.Path.{sym, ap, ◌∙◌}
-use Prim.Native.Nat.{◌-◌}
 use native.Mathlib.Omega.{arith}
-use borrow.Author.Rules.{rules}
-use lib.ListN.{length}
 use Rattle.octets.proofs.Digits.{number_is}
 use Rattle.file.proofs.Numbers.{took, takes_is}
-use Rattle.file.proofs.Scans.{Reading, reading_begins, reading_gap, reading_full, reading_digit, reading_bad, reading_ends}
+use Rattle.file.proofs.Scans.{reading_begins, reading_gap, reading_full, reading_digit, reading_bad, reading_ends}
 use Rattle.file.proofs.texts.scan.Goals as goal
 
 pub loop-i-init : goal.loop-i-init

@@ -1,7 +1,6 @@
 -- `file::put_file` meets its contract: each of the three parts stands right behind the one before. Assumes nothing.
 use mathlib.Core.Path.{refl, ◌∙◌}
 use native.Mathlib.Omega.{arith}
-use borrow.Author.Rules.{rules}
 use Rattle.file.specs.Files.{row_bytes}
 use Rattle.file.proofs.Files.{length-row}
 use Rattle.octets.proofs.Joins.{part_begin, put_part, put_more, put_over}

@@ -1,6 +1,5 @@
 -- `file::write_file` meets its contract: it is refused for a length or for the room, or all of it is written. Assumes nothing.
 use native.Mathlib.Omega.{arith}
-use borrow.Author.Rules.{rules}
 use Rattle.file.specs.Files.{file_of}
 use Rattle.file.proofs.Files.{length_file}
 use Rattle.card.proofs.Writes.{out_of_range, no_room, whole_card_lem}
