@@ -8,8 +8,7 @@ use Rattle.machine.specs.Lent.{call_of}
 use Rattle.l1.specs.Going.{gone_on, WentOn}
 use Rattle.l1.specs.declared.sessions.Gone.{Gone}
 use borrow.Author.Rules.{rules}
-use Rattle.l1.proofs.sessions.run_as.Statement.{statement}
-use Rattle.l1.proofs.sessions.run_as.Tie as tie
+use Rattle.l1.proofs.sessions.run_as.Goals as goal
 
 asked : (drum marks out deck : List ℕ) (s : State) (budget : ℕ) {x y : Switches} {d k : List ℕ} {r : Gone} → x ≡ y
     → WentOn (gone_on budget (call_of drum marks out deck s budget x) 0) d k r
@@ -17,15 +16,7 @@ asked : (drum marks out deck : List ℕ) (s : State) (budget : ℕ) {x y : Switc
 asked drum marks out deck s budget {d = d} {k = k} {r = r} e w =
     subst (λ (z : Switches). WentOn (gone_on budget (call_of drum marks out deck s budget z) 0) d k r) e w
 
-returns : tie.Need-returns
-returns c =
-    let gone : tie.After-go-on = search in
-    let switches : tie.After-switches-of = search in
-    let start : tie.Start = search in
-    let a = start.args in
-    λ e. asked a.drum.now a.marks.now a.out.now a.deck.now a.state a.options.budget switches.switches-of.ensures (gone.go_on.ensures e)
-
-pub run-as-spec : {M : Type 1} → statement M
-run-as-spec =
-    tie.close
-    (tie.spec (λ c κs. search rules) (λ c κs. search rules) (λ c. search rules) (λ c. search rules) (λ c. search rules) returns)
+pub returns : goal.returns
+returns g c =
+    let a = c.args in
+    λ e. asked a.drum.now a.marks.now a.out.now a.deck.now a.state a.options.budget c.switches_of.ensures (c.go_on.ensures e)

@@ -8,8 +8,7 @@ use Rattle.rules.specs.declared.State.{State}
 use Rattle.machine.specs.Lent.{LoadRight}
 use Rattle.machine.specs.declared.Loaded.{Loaded}
 use borrow.Author.Rules.{rules}
-use Rattle.l1.proofs.sessions.load_as.Statement.{statement}
-use Rattle.l1.proofs.sessions.load_as.Tie as tie
+use Rattle.l1.proofs.sessions.load_as.Goals as goal
 
 asked : (drum marks deck : List ℕ) (s : State) {t u : Bool} {d k : List ℕ} {r : Loaded} → t ≡ u
     → LoadRight (loaded (record { drum = drum; marks = marks; deck = deck; state = s; traced = t })) d k r
@@ -17,14 +16,7 @@ asked : (drum marks deck : List ℕ) (s : State) {t u : Bool} {d k : List ℕ} {
 asked drum marks deck s {d = d} {k = k} {r = r} e w =
     subst (λ (x : Bool). LoadRight (loaded (record { drum = drum; marks = marks; deck = deck; state = s; traced = x })) d k r) e w
 
-returns : tie.Need-returns
+pub returns : goal.returns
 returns c =
-    let load : tie.After-load = search in
-    let traced : tie.After-is-traced = search in
-    let start : tie.Start = search in
-    let a = start.args in
-    asked a.drum.now a.marks.now a.deck.now a.state traced.is-traced.ensures load.load.ensures
-
-pub load-as-spec : {M : Type 1} → statement M
-load-as-spec =
-    tie.close (tie.spec (λ c κs. search rules) (λ c κs. search rules) (λ c. search rules) (λ c. search rules) returns)
+    let a = c.args in
+    asked a.drum.now a.marks.now a.deck.now a.state c.is_traced.ensures c.load.ensures
