@@ -525,9 +525,9 @@ in_order() {
 order() {
     build_before "$here/stop.so" "$root/tests/tool/stop.c" || fail 'no library'
     in_order new m.machine = open fchmod write fsync close
-    in_order load m.machine sum.deck = readlink open read close open read close mkstemp write fsync close rename
-    in_order run m.machine sum.deck = readlink open read close open read close cards mkstemp write fsync close rename cards
-    in_order run m.machine sum.deck = readlink open read close open read close mkstemp write fsync close rename cards
+    in_order load m.machine sum.deck = statx open read close open read close getentropy open write fsync close rename
+    in_order run m.machine sum.deck = statx open read close open read close cards getentropy open write fsync close rename cards
+    in_order run m.machine sum.deck = statx open read close open read close getentropy open write fsync close rename cards
     in_order cells m.machine = open read close cards
     in_order make m.machine first=101 = open read close cards
     in_order session sum.deck = open read close cards

@@ -118,6 +118,9 @@ static const struct {
     {"P10, root of 2", l1_sqrt, TWO, 0, 1414213650},
 
     {"root of 0", l1_sqrt, 0, 0, 0},
+    {"root of 4", l1_sqrt, 4000000050, 0, TWO},
+    {"root of 10", l1_sqrt, 1000000051, 0, 3162277750},
+    {"root of the lowest", l1_sqrt, 1000000000, 0, 1000000025},
     {"root of -1", l1_sqrt, MINUS + ONE, 26, 0},
     {"root of the largest word", l1_sqrt, 19999999999, 26, 0},
     {"root of minus zero", l1_sqrt, MINUS, 24, 0},

@@ -85,15 +85,6 @@ ssize_t read(int fd, void *bytes, size_t n) {
     return done;
 }
 
-ssize_t readlink(const char *path, char *to, size_t n) {
-    ssize_t (*go)(const char *, char *, size_t) = real("readlink");
-    int it = is_it("readlink");
-    if (fails(it)) return -1;
-    ssize_t done = go(path, to, n);
-    after(it);
-    return done;
-}
-
 int open(const char *path, int flags, unsigned mode) {
     int (*go)(const char *, int, unsigned) = real("open");
     int it = is_it("open");
@@ -113,7 +104,8 @@ int open(const char *path, int flags, unsigned mode) {
         return answer;                                                                                                                 \
     }
 
-CALL(mkstemp, (char *name), (name))
+CALL(statx, (int at, const char *path, int flags, unsigned mask, void *found), (at, path, flags, mask, found))
+CALL(getentropy, (void *bytes, size_t n), (bytes, n))
 CALL(fsync, (int fd), (fd))
 CALL(close, (int fd), (fd))
 CALL(rename, (const char *from, const char *to), (from, to))

@@ -43,10 +43,10 @@ one_more (x ∷ ws) w e l = by_test (is_word x) e (one_more ws w)
     by_test true f k = k f l
     by_test false f k = f
 
-pub all_words : (v : List Cell) (b n : ℕ) → ((a : ℕ) → word_at v a ≤ 19999999999) → all_words (words_from v b n) ≡ true
+pub all_words_lem : (v : List Cell) (b n : ℕ) → ((a : ℕ) → word_at v a ≤ 19999999999) → all_words (words_from v b n) ≡ true
 unfolding words_from all_words
-all_words v b zero h = refl
-all_words v b (suc n) h = one_more (words_from v b n) (word_at v (b + n)) (all_words v b n h) (h (b + n))
+all_words_lem v b zero h = refl
+all_words_lem v b (suc n) h = one_more (words_from v b n) (word_at v (b + n)) (all_words_lem v b n h) (h (b + n))
 
 pub record May (number location : ℕ) (words : List ℕ) (n problem : ℕ) : Type 0 where
   pub numbered : number ≤ 9999

@@ -8,8 +8,8 @@ use octets::{put_byte, put_field, put_word};
 
 // The first n words, from place a on.
 fn put_words(out: &mut [u8], a: usize, words: &[u64], n: usize)
-    requires n_in_bounds { n ≤ length words.now }
-    requires n_in_bounds_2 { a + 11 * n ≤ length out.old }
+    requires words_in { n ≤ length words.now }
+    requires room_left { a + 11 * n ≤ length out.old }
     ensures { out.new ≡ splice a (words_bytes (take n words.now)) out.old }
 {
     let mut i: usize = 0;
@@ -30,8 +30,8 @@ pub(crate) fn put_card(
     n: usize,
     problem: u64,
 )
-    requires n_in_bounds { n ≤ length words.now }
-    requires n_in_bounds_2 { 11 + 11 * n ≤ length out.old }
+    requires words_in { n ≤ length words.now }
+    requires room_left { 11 + 11 * n ≤ length out.old }
     ensures { out.new ≡ over (kind ∷ digits 4 number ++ digits 3 location ++ words_bytes (take n words.now)
         ++ digits 3 problem) out.old }
 {

@@ -1,6 +1,6 @@
 -- The table by the number of its row: what stands in the first row with a code is what the rules find for the code. Assumes nothing.
 use Prim.Native.Nat.{ℕ, zero, suc, ◌+◌, ◌≤◌, ◌<◌}
-use mathlib.Core.Path.{◌≡◌, refl, sym, ap, ◌∙◌}
+use mathlib.Core.Path.{◌≡◌, refl, ap}
 use mathlib.Core.Bool.{Bool, true, false}
 use mathlib.Core.List.{List, [], ◌∷◌}
 use native.Mathlib.Nat.{le_of_suc-le-suc, zero-add}
@@ -11,7 +11,6 @@ use lib.Dec.{eqb}
 use lib.ListN.{length, drop}
 use Rattle.rules.specs.Words.{pick}
 use Rattle.rules.specs.Codes.{Row, codes, lookup, name_in}
-use Rattle.rules.specs.declared.Built.{Built}
 use Rattle.rules.specs.declared.Built.TheVariants.{As, No}
 use Rattle.codes.specs.Rows.{row_in, row_built, name_at, code_at}
 

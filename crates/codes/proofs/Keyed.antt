@@ -1,11 +1,11 @@
 -- Keys: the code of an order and its slot go by the same three cases. Assumes nothing.
-use Prim.Native.Nat.{ℕ, ◌+◌, ◌-◌, ◌*◌, ◌/◌, ◌%◌, ◌≤◌, ◌<◌}
-use mathlib.Core.Path.{◌≡◌, refl, sym, ap, ◌∙◌}
+use Prim.Native.Nat.{ℕ, ◌+◌, ◌*◌, ◌/◌, ◌≤◌, ◌<◌}
+use mathlib.Core.Path.{◌≡◌, refl}
 use mathlib.Core.Bool.{Bool, true, false}
 use native.Mathlib.Omega.{arith}
 use borrow.Author.Tests.{lt-ltb, le-ltb, eq-eqb, ne_eqb, eqb-true, ltb-true, ltb-false}
 use lib.Dec.{eqb, ltb}
-use Rattle.rules.specs.Words.{pick, both, a_in, first_digit}
+use Rattle.rules.specs.Words.{pick, a_in, first_digit}
 use Rattle.rules.specs.Codes.{code_in, is_block_move}
 use Rattle.rules.proofs.Tests.{both_first, both-second}
 use Rattle.codes.specs.Keys.{key_in, slot_of, code_of_slot}

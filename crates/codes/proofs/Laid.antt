@@ -3,14 +3,13 @@
 use Prim.Native.Nat.{ℕ, zero, suc, ◌+◌, ◌≤◌, ◌<◌}
 use mathlib.Core.Path.{◌≡◌, refl, sym, ap, ◌∙◌}
 use mathlib.Core.Bool.{Bool, true, false}
-use mathlib.Core.List.{List, [], ◌∷◌}
+use mathlib.Core.List.{List}
 use native.Mathlib.Nat.{zero-add, add-zero, add-suc, suc-add, le_of_suc-le-suc, not-suc-le-zero}
 use native.Mathlib.Numerals.{add-one}
 use native.Mathlib.Omega.{arith}
 use borrow.Author.Tests.{lt-ltb}
 use lib.ListN.{length, get_or, set, replicate, length-set}
 use Rattle.rules.specs.Codes.{codes, lookup}
-use Rattle.rules.specs.declared.Built.{Built}
 use Rattle.codes.specs.Rows.{row_in, row_built, code_at}
 use Rattle.codes.specs.Keys.{key_in, slot_of, code_of_slot}
 use Rattle.codes.specs.Slots.{done_as, entry_at, listed, index_for, built_in, Indexed}

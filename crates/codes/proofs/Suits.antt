@@ -6,7 +6,7 @@ use mathlib.Core.List.{List, [], ◌∷◌}
 use lib.Dec.{eqb}
 use Rattle.rules.specs.Words.{pick}
 use Rattle.rules.specs.Codes.{Row, codes, lookup}
-use Rattle.rules.specs.declared.Built.TheVariants.{As, No}
+use Rattle.rules.specs.declared.Built.TheVariants.{As}
 use Rattle.codes.specs.Suits.{Suits, SuitsBuilt}
 
 abbrev AllSuit : List Row → Type 0

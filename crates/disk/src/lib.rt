@@ -1,10 +1,19 @@
 // Files by name: read whole, made new, and replaced whole or not at all. What a call of the system reads or writes no contract can say.
+// Files are reached through `rt`, and what goes wrong is said on `texts`.
 #![tactic(auto)]
 
 mod names;
 
-ghost use Rattle.io.specs.Counts.{IsPrefixLen};
-ghost use Rattle.std.specs.Prelude.{◌≡◌, false};
+ghost use Rattle.says.specs.Counts.{IsPrefixLen};
+ghost use Rattle.std.specs.Prelude.{◌≡◌, false, IfOk};
+
+use octets::lesser;
+use std::fs::{self, OpenFile, OpenOptions, Permissions};
+use std::io::{ErrorKind, Print, Read, Write};
+use std::os::unix::fs::{OpenOptionsExt, PermissionsExt};
+use std::random::RandomSource;
+use std::rt::Files;
+use std::{io, str};
 
 // Whether a file was read, and how many bytes of the room it took.
 #[derive(Clone, Copy)]
@@ -13,26 +22,50 @@ pub struct Filled {
     pub count: usize,
 }
 
-// One read into what is left of the room; nothing at the file's end.
-fn read_some(fd: i32, rest: &mut [u8]) -> Filled
-    ensures { IsPrefixLen result.count rest.new }
+// A file of which nothing was read.
+fn unread() -> Filled
+    ensures count_value { result.count ≡ 0 }
 {
-    let got = libc::read(fd, rest);
-    let n = io::count(got, rest);
     Filled {
-        good: got >= 0,
-        count: n,
+        good: false,
+        count: 0,
     }
 }
 
-// Reads until the room is full or the file ends.
-pub fn fill(fd: i32, room: &mut [u8]) -> Filled
+// A path as the library takes it, which is text: bytes that are no UTF-8 name no file.
+fn text_of(path: &[u8]) -> io::Result<&str>
+    ensures { IfOk result (λ text. text.now ≡ path.now) }
+{
+    match str::from_utf8(path) {
+        Ok(text) => Ok(text),
+        Err(_) => Err(io::Error::new(ErrorKind::InvalidInput, "a file's name must be UTF-8")),
+    }
+}
+
+// One read into what is left of the room; nothing at the file's end. Where it fails, that is said.
+fn read_some<F: Read>(file: &mut F, texts: &impl Print, path: &[u8], rest: &mut [u8]) -> Filled
+    ensures { IsPrefixLen result.count rest.new }
+{
+    match file.read(rest) {
+        Ok(n) => Filled {
+            good: true,
+            count: n,
+        },
+        Err(why) => {
+            says::failed(texts, path, &why);
+            unread()
+        }
+    }
+}
+
+// Reads the open file at path until the room is full or the file ends. Where it cannot be read, that is said.
+pub fn fill<F: Read>(file: &mut F, texts: &impl Print, path: &[u8], room: &mut [u8]) -> Filled
     ensures prefix_len { IsPrefixLen result.count room.new }
     ensures count_value { result.good ≡ false → result.count ≡ 0 }
 {
     let mut at: usize = 0;
     while at < room.len() {
-        let x = read_some(fd, &mut room[at..]);
+        let x = read_some(file, texts, path, &mut room[at..]);
         let n = x.count;
         if !x.good {
             return Filled {
@@ -51,88 +84,165 @@ pub fn fill(fd: i32, room: &mut [u8]) -> Filled
     }
 }
 
+// Opens the file at path for reading.
+pub fn open<R: Files>(rt: &R, path: &[u8]) -> io::Result<R::File> {
+    fs::open(rt, text_of(path)?)
+}
+
 // The file at path, as far as the room goes. Where it cannot be read, that is said.
-pub fn read_whole(room: &mut [u8], path: &[u8]) -> Filled
+pub fn read_whole<R: Files>(rt: &R, texts: &impl Print, room: &mut [u8], path: &[u8]) -> Filled
     ensures prefix_len { IsPrefixLen result.count room.new }
     ensures count_value { result.good ≡ false → result.count ≡ 0 }
 {
-    let fd = os::open_read(path);
-    if fd < 0 {
-        says::failed(path);
-        return Filled {
-            good: false,
-            count: 0,
-        };
+    match open(rt, path) {
+        Ok(mut file) => fill(&mut file, texts, path, room),
+        Err(why) => {
+            says::failed(texts, path, &why);
+            unread()
+        }
     }
-    let x = fill(fd, room);
-    if !x.good {
-        says::failed(path);
-    }
-    libc::close(fd);
-    x
 }
 
-// The bytes are written to an open file, flushed to the disk, and the file is closed. It answers whether all of it went well; errno
-// says of the first that did not why.
-fn write_out(fd: i32, bytes: &[u8]) -> bool {
-    if !io::write_all(fd, bytes) {
-        return false;
+// A file is made under a name that no file has, and opened to be written. It is its owner's alone.
+fn create<R: Files>(rt: &R, path: &[u8]) -> io::Result<R::File> {
+    let mut how = OpenOptions::new();
+    how.write(true).create_new(true).mode(0o600);
+    how.open(rt, text_of(path)?)
+}
+
+// The bytes are written to an open file, flushed to the disk, and the file is closed. That it cannot be closed is not told: its bytes are
+// on the disk by then.
+fn write_out<F: Write + OpenFile + Drop>(mut file: F, bytes: &[u8]) -> io::Result<()> {
+    file.write_all(bytes)?;
+    file.sync_all()
+}
+
+// The file at path is removed, where that can be done.
+fn remove(rt: &impl Files, path: &[u8]) {
+    if let Ok(text) = text_of(path) {
+        fs::remove_file(rt, text).is_ok();
     }
-    if libc::fsync(fd) != 0 {
-        return false;
-    }
-    libc::close(fd) == 0
 }
 
 // A file is made of bytes under a name that no file has; it is its owner's alone, as is one that replaces it later. Where that fails, it
 // is said and no file is left.
-pub fn make(path: &[u8], bytes: &[u8]) -> bool {
-    let fd = os::create(path);
-    if fd < 0 {
-        says::failed(path);
+pub fn make(rt: &impl Files, texts: &impl Print, path: &[u8], bytes: &[u8]) -> bool {
+    match create(rt, path) {
+        Ok(file) => {
+            // whatever the rights are that the system takes from a new file
+            file.set_permissions(Permissions::from_mode(0o600)).is_ok();
+            match write_out(file, bytes) {
+                Ok(()) => true,
+                Err(why) => {
+                    says::failed(texts, path, &why);
+                    remove(rt, path);
+                    false
+                }
+            }
+        }
+        Err(why) => {
+            says::failed(texts, path, &why);
+            false
+        }
+    }
+}
+
+// A new file under a name whose last six bytes are drawn.
+fn create_drawn<R: Files + RandomSource>(rt: &R, name: &mut [u8]) -> io::Result<R::File> {
+    let mut draw = [0u8; 6];
+    rt.fill_bytes(&mut draw)?;
+    names::put_letters(name, draw);
+    create(rt, name)
+}
+
+// How many names are drawn before the last is told to be taken: as many as there are of three letters.
+const MOST_DRAWN: u32 = 238_328;
+
+// A new file under a name that no file has, of those that differ in the last six bytes.
+fn create_beside<R: Files + RandomSource>(rt: &R, name: &mut [u8]) -> io::Result<R::File> {
+    for _ in 1..MOST_DRAWN {
+        match create_drawn(rt, name) {
+            Err(why) if why.kind() == ErrorKind::AlreadyExists => {}
+            answer => return answer,
+        }
+    }
+    create_drawn(rt, name)
+}
+
+// The file at path takes the place of the one at another.
+fn rename(rt: &impl Files, from: &[u8], to: &[u8]) -> io::Result<()> {
+    fs::rename(rt, text_of(from)?, text_of(to)?)
+}
+
+// The bytes are written to a new file at name, which then takes the place of the one at path. Where that fails, it is said and the new
+// file is removed.
+fn put_in_place<F: Write + OpenFile + Drop>(
+    rt: &impl Files,
+    texts: &impl Print,
+    file: F,
+    name: &[u8],
+    path: &[u8],
+    bytes: &[u8],
+) -> bool {
+    if let Err(why) = write_out(file, bytes) {
+        says::failed(texts, name, &why);
+        remove(rt, name);
         return false;
     }
-    libc::fchmod(fd, 0o600);
-    if !write_out(fd, bytes) {
-        says::failed(path);
-        os::unlink(path);
+    if let Err(why) = rename(rt, name, path) {
+        says::failed(texts, path, &why);
+        remove(rt, name);
         return false;
     }
     true
 }
 
 // The file at path is replaced by a new one of these bytes beside it, whose name is made from the one given.
-fn replace_by(name: &mut [u8], path: &[u8], bytes: &[u8]) -> bool {
-    let fd = os::create_temp(name);
-    if fd < 0 {
-        says::failed(name);
-        return false;
+fn replace_by<R: Files + RandomSource>(
+    rt: &R,
+    texts: &impl Print,
+    name: &mut [u8],
+    path: &[u8],
+    bytes: &[u8],
+) -> bool {
+    match create_beside(rt, name) {
+        Ok(file) => put_in_place(rt, texts, file, name, path, bytes),
+        Err(why) => {
+            names::put_marks(name);
+            says::failed(texts, name, &why);
+            false
+        }
     }
-    if !write_out(fd, bytes) {
-        says::failed(name);
-        os::unlink(name);
-        return false;
-    }
-    if os::rename(name, path) != 0 {
-        says::failed(path);
-        os::unlink(name);
-        return false;
-    }
-    true
 }
 
 // The file at path is replaced by one of these bytes, whole or not at all: they are written to a new file beside it, which then takes its
 // name. Where that fails, it is said and the new file is removed. A killed call leaves a new file behind that no later call meets, since
 // each has a name of its own.
-pub fn replace(path: &[u8], bytes: &[u8]) -> bool {
-    let mut name = io::buffer();
+pub fn replace<R: Files + RandomSource>(
+    rt: &R,
+    texts: &impl Print,
+    path: &[u8],
+    bytes: &[u8],
+) -> bool {
+    let mut name = names::path_room();
     let n = names::name_beside(&mut name, path);
-    replace_by(&mut name[..n], path, bytes)
+    replace_by(rt, texts, &mut name[..n], path, bytes)
 }
 
-// Whether the name is that of a link. A link would be replaced itself, and the file that it leads to stay as it was.
-pub fn is_link(path: &[u8]) -> bool {
-    let mut text = io::buffer();
+// Whether a name, as text, is that of a link.
+fn is_link_at(rt: &impl Files, text: &str) -> bool {
+    match fs::symlink_metadata(rt, text) {
+        Ok(found) => found.is_symlink(),
+        Err(_) => false,
+    }
+}
+
+// Whether the name is that of a link, as far as the system takes one. A link would be replaced itself, and the file that it leads to stay
+// as it was.
+pub fn is_link(rt: &impl Files, path: &[u8]) -> bool {
     let name = names::ended(path);
-    libc::readlink(&name, &mut text) >= 0
+    match text_of(&name[..lesser(path.len(), 4095)]) {
+        Ok(text) => is_link_at(rt, text),
+        Err(_) => false,
+    }
 }

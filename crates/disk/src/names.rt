@@ -1,8 +1,7 @@
 // Names of files as bytes in a room.
-ghost use Rattle.std.specs.Prelude.{◌≡◌, ◌≤◌, length, replicate};
-ghost use Rattle.io.specs.Counts.{IsPrefixLen};
-ghost use Rattle.libc.specs.Io.{Ended};
-ghost use Rattle.disk.specs.Names.{with_part, behind_part, beside_room, beside_size, ended_path};
+ghost use Rattle.std.specs.Prelude.{◌≡◌, ◌≤◌, ◌-◌, length, replicate, map};
+ghost use Rattle.says.specs.Counts.{IsPrefixLen};
+ghost use Rattle.disk.specs.Names.{with_part, behind_part, beside_room, beside_size, ended_path, Ended, letter_of, with_end, six_marks};
 
 use octets::{copy, lesser};
 
@@ -17,7 +16,7 @@ fn put(out: &mut [u8], at: usize, part: &[u8]) -> usize
     at + lesser(left, part.len())
 }
 
-// The name of a new file beside the one at path, as create_temp takes it.
+// The name of a new file beside the one at path, in which letters are to stand in place of the last six bytes.
 pub(crate) fn name_beside(name: &mut [u8], path: &[u8]) -> usize
     ensures value { (result ≡ beside_size name.old path.now) × (name.new ≡ beside_room name.old path.now) }
     ensures prefix_len { IsPrefixLen result name.new }
@@ -26,8 +25,39 @@ pub(crate) fn name_beside(name: &mut [u8], path: &[u8]) -> usize
     put(name, at, b".new-XXXXXX")
 }
 
+// The last bytes of a name become these.
+fn put_end(name: &mut [u8], end: &[u8])
+    ensures { name.new ≡ with_end name.old end.now }
+{
+    let at = name.len() - lesser(name.len(), end.len());
+    put(name, at, end);
+}
+
+// A letter or a digit that a byte chooses.
+fn letter_of(drawn: u8) -> u8
+    ensures { result ≡ letter_of drawn }
+{
+    let letters = b"ABCDEFGHIJKLMNOPQRSTUVWXYZabcdefghijklmnopqrstuvwxyz0123456789";
+    letters[drawn as usize % 62]
+}
+
+// The last six bytes of a name become letters and digits that these bytes choose.
+pub(crate) fn put_letters(name: &mut [u8], drawn: [u8; 6])
+    ensures { name.new ≡ with_end name.old (map letter_of drawn) }
+{
+    let letters = drawn.map(letter_of);
+    put_end(name, &letters);
+}
+
+// The last six bytes of a name become the marks that letters stand in place of.
+pub(crate) fn put_marks(name: &mut [u8])
+    ensures { name.new ≡ with_end name.old six_marks }
+{
+    put_end(name, b"XXXXXX");
+}
+
 // 4,096 zeros.
-fn path_room() -> [u8; 4096]
+pub(crate) fn path_room() -> [u8; 4096]
     ensures { result ≡ replicate 4096 0 }
 {
     [0; 4096]

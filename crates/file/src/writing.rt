@@ -13,7 +13,7 @@ use states::numbers_of;
 fn put_file(out: &mut [u8], drum: &[u64], marks: &[u8], numbers: &[u64; 9])
     requires drum_len { length drum.now ≡ 1000 }
     requires marks_len { length marks.now ≡ 1000 }
-    requires in_bounds { 9072 ≤ length out.old }
+    requires room_left { 9072 ≤ length out.old }
     ensures { out.new ≡ over (row_bytes drum.now ++ marks.now ++ row_bytes numbers.now) out.old }
 {
     put_row(out, 0, drum);

@@ -7,6 +7,8 @@ use crate::sessions::{empty_drum, no_marks};
 use calls::{Options, problem_of};
 use rules::State;
 use shows::send;
+use std::io::Print;
+use std::rt::Files;
 
 // Room for the longest deck that can be made.
 fn made_room() -> [u8; 13196]
@@ -17,29 +19,44 @@ fn made_room() -> [u8; 13196]
 
 // Bytes that are what a call of make tells: the deck of these cells and marks with the numbers that the words of the call and the machine's
 // state give, or the line of a call that is refused.
-fn send_made(bytes: &[u8], drum: &[u64], marks: &[u8], state: State, options: Options) -> bool
+fn send_made(
+    rt: &impl Print,
+    texts: &impl Print,
+    bytes: &[u8],
+    drum: &[u64],
+    marks: &[u8],
+    state: State,
+    options: Options,
+) -> bool
     requires { MadeTold drum.now marks.now options state bytes.now }
 {
-    send(bytes)
+    send(rt, texts, bytes)
 }
 
 // The deck of these cells and marks, or the line of a call that is refused.
-fn make_of(drum: &[u64], marks: &[u8], state: State, options: Options) -> bool {
+fn make_of(
+    rt: &impl Print,
+    texts: &impl Print,
+    drum: &[u64],
+    marks: &[u8],
+    state: State,
+    options: Options,
+) -> bool {
     let mut out = made_room();
     let problem = problem_of(options, state.problem);
     let made = making::make(drum, marks, &mut out, options.order, problem);
     let n = says::write_making(&mut out, made);
-    send_made(&out[..n], drum, marks, state, options)
+    send_made(rt, texts, &out[..n], drum, marks, state, options)
 }
 
 // The deck of the machine file at path.
-pub fn make(path: &[u8], options: Options) {
+pub fn make(rt: &(impl Files + Print), texts: &impl Print, path: &[u8], options: Options) {
     let mut drum = empty_drum();
     let mut marks = no_marks();
-    let held = hold(&mut drum, &mut marks, path);
-    if !is_held(held) {
+    let held = hold(rt, texts, &mut drum, &mut marks, path);
+    if !is_held(rt, texts, held) {
         return;
     }
     let state = held.state;
-    make_of(&drum, &marks, state, options);
+    make_of(rt, texts, &drum, &marks, state, options);
 }

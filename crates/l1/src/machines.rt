@@ -1,18 +1,22 @@
 // Machine files: made new, read onto a drum, and replaced. Load and run on them.
 ghost use Rattle.std.specs.Prelude.{◌≡◌, true, List, ℕ, length};
-ghost use Rattle.io.specs.Counts.{IsPrefixLen};
+ghost use Rattle.says.specs.Counts.{IsPrefixLen};
 ghost use Rattle.rules.specs.Words.{both};
 ghost use Rattle.file.specs.Files.{file_of};
 ghost use Rattle.file.specs.Reads.{FileRead};
 ghost use Rattle.says.specs.Told.{may_close};
 ghost use Rattle.l1.specs.New.{new_file};
 
-use crate::sessions::{Gone, deck_room, empty_drum, load_as, no_marks, run_as};
+use crate::sessions::{Gone, cards_room, deck_room, empty_drum, load_as, no_marks, run_as};
 use crate::telling::{tell, tell_bar, tell_refused};
-use crate::words::name_at;
+use crate::words::{name_at, name_room, word_count};
 use calls::Options;
 use disk::{Filled, read_whole};
 use rules::{Bar, Ending, Loading, State};
+use std::env::Env;
+use std::io::Print;
+use std::random::RandomSource;
+use std::rt::Files;
 
 // Whether a machine file could be read, whether it is one, and the state in it.
 #[derive(Clone, Copy)]
@@ -44,11 +48,17 @@ fn text_room() -> [u8; 262145]
 }
 
 // The machine file at path, onto a drum and marks: what stands in some bytes, whatever the system read.
-pub fn hold(drum: &mut [u64], marks: &mut [u8], path: &[u8]) -> Held
+pub fn hold(
+    rt: &impl Files,
+    texts: &impl Print,
+    drum: &mut [u64],
+    marks: &mut [u8],
+    path: &[u8],
+) -> Held
     ensures { (bytes : List ℕ) × FileRead drum.old marks.old bytes (record { good = result.good; state = result.state }) drum.new marks.new }
 {
     let mut room = file_room();
-    let x = read_whole(&mut room, path);
+    let x = read_whole(rt, texts, &mut room, path);
     let n = x.count;
     let found = file::read_file(drum, marks, &room[..n]);
     let state = found.state;
@@ -60,44 +70,65 @@ pub fn hold(drum: &mut [u64], marks: &mut [u8], path: &[u8]) -> Held
 }
 
 // Whether a machine file may be used. Where it could be read and is none, that is told.
-pub fn is_held(held: Held) -> bool
+pub fn is_held(rt: &impl Print, texts: &impl Print, held: Held) -> bool
     ensures { result ≡ both held.read held.good }
 {
     if !held.read {
         return false;
     }
     if !held.good {
-        tell_bar(Bar::BadDrum);
+        tell_bar(rt, texts, Bar::BadDrum);
         return false;
     }
     true
 }
 
 // The file at path is replaced by bytes that are the machine file of these cells, marks and state.
-fn replace_file(path: &[u8], bytes: &[u8], drum: &[u64], marks: &[u8], state: State) -> bool
+fn replace_file(
+    rt: &(impl Files + RandomSource),
+    texts: &impl Print,
+    path: &[u8],
+    bytes: &[u8],
+    drum: &[u64],
+    marks: &[u8],
+    state: State,
+) -> bool
     requires { bytes.now ≡ file_of drum.now marks.now state }
 {
-    disk::replace(path, bytes)
+    disk::replace(rt, texts, path, bytes)
 }
 
 // The machine file at path becomes one of these cells, marks and state, or stays as it was, and that is said.
-fn keep(path: &[u8], drum: &[u64], marks: &[u8], state: State) -> bool {
+fn keep(
+    rt: &(impl Files + RandomSource),
+    texts: &impl Print,
+    path: &[u8],
+    drum: &[u64],
+    marks: &[u8],
+    state: State,
+) -> bool {
     let mut bytes = file_bytes();
     if file::write_file(&mut bytes, drum, marks, state) {
-        if replace_file(path, &bytes, drum, marks, state) {
+        if replace_file(rt, texts, path, &bytes, drum, marks, state) {
             return true;
         }
     }
-    says::kept(path);
+    says::kept(texts, path);
     false
 }
 
 // A load on the machine file at path.
-fn load_on(path: &[u8], deck: &[u8], options: Options) {
+fn load_on(
+    rt: &(impl Files + Print + RandomSource),
+    texts: &impl Print,
+    path: &[u8],
+    deck: &[u8],
+    options: Options,
+) {
     let mut drum = empty_drum();
     let mut marks = no_marks();
-    let held = hold(&mut drum, &mut marks, path);
-    if !is_held(held) {
+    let held = hold(rt, texts, &mut drum, &mut marks, path);
+    if !is_held(rt, texts, held) {
         return;
     }
     let before = held.state;
@@ -106,43 +137,59 @@ fn load_on(path: &[u8], deck: &[u8], options: Options) {
     let after = x.state;
     match loading {
         Loading::Loaded => {
-            keep(path, &drum, &marks, after);
+            keep(rt, texts, path, &drum, &marks, after);
         }
-        Loading::NotLoaded(b) => tell_refused(b, deck),
+        Loading::NotLoaded(b) => tell_refused(rt, texts, b, deck),
     }
 }
 
 // A run on the machine file at path. The cards are sent as the run goes on; the file is replaced before the Z card is sent, so that a Z
 // card says what the file holds.
-fn run_on(path: &[u8], deck: &[u8], options: Options) {
+fn run_on(
+    rt: &(impl Files + Print + RandomSource),
+    texts: &impl Print,
+    path: &[u8],
+    deck: &[u8],
+    options: Options,
+) {
     let mut drum = empty_drum();
     let mut marks = no_marks();
-    let held = hold(&mut drum, &mut marks, path);
-    if !is_held(held) {
+    let held = hold(rt, texts, &mut drum, &mut marks, path);
+    if !is_held(rt, texts, held) {
         return;
     }
     let before = held.state;
-    let mut out = io::large_buffer();
-    let g = run_as(&mut drum, &mut marks, &mut out, deck, before, options);
+    let mut out = cards_room();
+    let g = run_as(
+        rt, texts, &mut drum, &mut marks, &mut out, deck, before, options,
+    );
     if !g.sent {
-        says::kept(path);
+        says::kept(texts, path);
         return;
     }
-    finish(path, &drum, &marks, deck, g);
+    finish(rt, texts, path, &drum, &marks, deck, g);
 }
 
 // After a run on a machine file: it is replaced, and the Z card is sent; or the run was refused at its entry, and its line is sent.
-fn finish(path: &[u8], drum: &[u64], marks: &[u8], deck: &[u8], g: Gone)
+fn finish(
+    rt: &(impl Files + Print + RandomSource),
+    texts: &impl Print,
+    path: &[u8],
+    drum: &[u64],
+    marks: &[u8],
+    deck: &[u8],
+    g: Gone,
+)
     requires { may_close g.ending g.state g.count ≡ true }
 {
     let ending = g.ending;
     let state = g.state;
     match ending {
-        Ending::NotRun(b) => tell_refused(b, deck),
+        Ending::NotRun(b) => tell_refused(rt, texts, b, deck),
         Ending::Ran(_) => {
-            if keep(path, drum, marks, state) {
-                if !tell(ending, state, g.count) {
-                    says::replaced(path);
+            if keep(rt, texts, path, drum, marks, state) {
+                if !tell(rt, texts, ending, state, g.count) {
+                    says::replaced(texts, path);
                 }
             }
         }
@@ -150,102 +197,112 @@ fn finish(path: &[u8], drum: &[u64], marks: &[u8], deck: &[u8], g: Gone)
 }
 
 // The deck that the word behind the machine file's name names. A machine file that is a link is not taken.
-fn deck_for(path: &[u8], room: &mut [u8]) -> Filled
+fn deck_for(rt: &(impl Files + Env), texts: &impl Print, path: &[u8], room: &mut [u8]) -> Filled
     ensures { IsPrefixLen result.count room.new }
 {
     let none = Filled {
         good: false,
         count: 0,
     };
-    if disk::is_link(path) {
-        says::link(path);
+    if disk::is_link(rt, path) {
+        says::link(texts, path);
         return none;
     }
-    let mut name = io::buffer();
-    let named = name_at(&mut name, 3);
+    let mut name = name_room();
+    let named = name_at(rt, texts, &mut name, 3);
     if !named.good {
         return none;
     }
     let n = named.count;
-    read_whole(room, &name[..n])
+    read_whole(rt, texts, room, &name[..n])
 }
 
 // Load on the machine file at path, with the deck that the next word names.
-pub fn load(path: &[u8], options: Options) {
+pub fn load(
+    rt: &(impl Files + Env + Print + RandomSource),
+    texts: &impl Print,
+    path: &[u8],
+    options: Options,
+) {
     let mut room = deck_room();
-    let deck = deck_for(path, &mut room);
+    let deck = deck_for(rt, texts, path, &mut room);
     if deck.good {
         let n = deck.count;
-        load_on(path, &room[..n], options);
+        load_on(rt, texts, path, &room[..n], options);
     }
 }
 
 // Run on the machine file at path, with the deck that the next word names.
-pub fn run(path: &[u8], options: Options) {
+pub fn run(
+    rt: &(impl Files + Env + Print + RandomSource),
+    texts: &impl Print,
+    path: &[u8],
+    options: Options,
+) {
     let mut room = deck_room();
-    let deck = deck_for(path, &mut room);
+    let deck = deck_for(rt, texts, path, &mut room);
     if deck.good {
         let n = deck.count;
-        run_on(path, &room[..n], options);
+        run_on(rt, texts, path, &room[..n], options);
     }
 }
 
 // A file is made of bytes that are the new machine file of these cells.
-fn make_file(path: &[u8], bytes: &[u8], drum: &[u64]) -> bool
+fn make_file(rt: &impl Files, texts: &impl Print, path: &[u8], bytes: &[u8], drum: &[u64]) -> bool
     requires { bytes.now ≡ new_file drum.now }
 {
-    disk::make(path, bytes)
+    disk::make(rt, texts, path, bytes)
 }
 
 // A new machine file of these cells, with no marks and a state of nine zeros. Where it is not made, that is said.
-fn make(path: &[u8], drum: &[u64]) -> bool {
+fn make(rt: &impl Files, texts: &impl Print, path: &[u8], drum: &[u64]) -> bool {
     let marks = no_marks();
     let mut bytes = file_bytes();
     if file::write_file(&mut bytes, drum, &marks, states::none()) {
-        return make_file(path, &bytes, drum);
+        return make_file(rt, texts, path, &bytes, drum);
     }
     false
 }
 
 // The text of cells at path, onto a drum.
-fn fill_drum(drum: &mut [u64], path: &[u8]) -> bool {
+fn fill_drum(rt: &impl Files, texts: &impl Print, drum: &mut [u64], path: &[u8]) -> bool {
     let mut room = text_room();
-    let x = read_whole(&mut room, path);
+    let x = read_whole(rt, texts, &mut room, path);
     if !x.good {
         return false;
     }
     let n = x.count;
     if 262_144 < n {
-        says::too_long(path);
+        says::too_long(texts, path);
         return false;
     }
     if !file::read_cells(drum, &room[..n]) {
-        says::not_cells(path);
+        says::not_cells(texts, path);
         return false;
     }
     true
 }
 
 // A new machine file whose cells are those of the text that the next word names.
-fn new_filled(path: &[u8]) {
-    let mut name = io::buffer();
-    let named = name_at(&mut name, 3);
+fn new_filled(rt: &(impl Files + Env), texts: &impl Print, path: &[u8]) {
+    let mut name = name_room();
+    let named = name_at(rt, texts, &mut name, 3);
     if !named.good {
         return;
     }
     let n = named.count;
     let mut drum = empty_drum();
-    if fill_drum(&mut drum, &name[..n]) {
-        make(path, &drum);
+    if fill_drum(rt, texts, &mut drum, &name[..n]) {
+        make(rt, texts, path, &drum);
     }
 }
 
 // A new machine file, whose cells are 0 or those of a text.
-pub fn new(path: &[u8]) {
-    if 3 < os::arg_count() {
-        new_filled(path);
+pub fn new(rt: &(impl Files + Env), texts: &impl Print, path: &[u8]) {
+    if 3 < word_count(rt) {
+        new_filled(rt, texts, path);
         return;
     }
     let drum = empty_drum();
-    make(path, &drum);
+    make(rt, texts, path, &drum);
 }

@@ -11,6 +11,8 @@ use crate::telling::{send_cards, tell, tell_refused};
 use calls::{Options, is_traced, switches_of};
 use machine::Loaded;
 use rules::{Ending, Loading, Refusal, State, Switches};
+use std::io::Print;
+use std::rt::Files;
 
 // What a run came to, room after room, and whether all its cards were sent.
 #[derive(Clone, Copy)]
@@ -35,6 +37,8 @@ fn may_refill(ending: Ending, count: u64) -> bool
 // A run whose cards are sent as it goes on. Where the room is full the cards in it are sent, and the run goes on with the rest of its
 // budget in the same room, empty again.
 fn go_on(
+    rt: &impl Print,
+    texts: &impl Print,
     drum: &mut [u64],
     marks: &mut [u8],
     out: &mut [u8],
@@ -56,7 +60,7 @@ fn go_on(
         let n = x.written;
         let s = x.state;
         count += done;
-        if !send_cards(out, n, x) {
+        if !send_cards(rt, texts, out, n, x) {
             return Gone {
                 sent: false,
                 ending,
@@ -79,6 +83,8 @@ fn go_on(
 
 // A run as a call asks for it: its budget, and the console's switches.
 pub fn run_as(
+    rt: &impl Print,
+    texts: &impl Print,
     drum: &mut [u64],
     marks: &mut [u8],
     out: &mut [u8],
@@ -90,6 +96,8 @@ pub fn run_as(
         drum.new marks.new result }
 {
     go_on(
+        rt,
+        texts,
         drum,
         marks,
         out,
@@ -117,18 +125,25 @@ pub fn load_as(
 
 // 1,000 cells of 0.
 pub fn empty_drum() -> [u64; 1000]
-    ensures value { result ≡ zeros }
-    ensures value_2 { 1000 ≡ length result }
+    ensures zeros { result ≡ zeros }
+    ensures cells { 1000 ≡ length result }
 {
     [0u64; 1000]
 }
 
 // 1,000 marks of 0.
 pub fn no_marks() -> [u8; 1000]
-    ensures value { result ≡ zeros }
-    ensures value_2 { 1000 ≡ length result }
+    ensures zeros { result ≡ zeros }
+    ensures cells { 1000 ≡ length result }
 {
     [0u8; 1000]
+}
+
+// Room for the cards of a run, for which it is emptied whenever it is full.
+pub fn cards_room() -> [u8; 65536]
+    ensures { 65536 ≡ length result }
+{
+    [0; 65536]
 }
 
 // Room for a deck and one byte more, by which a longer one is noticed.
@@ -139,35 +154,43 @@ pub fn deck_room() -> [u8; 65537]
 }
 
 // A run behind its load: its cards, then the Z card.
-fn play_on(drum: &mut [u64], marks: &mut [u8], deck: &[u8], state: State, options: Options) {
-    let mut out = io::large_buffer();
-    let g = run_as(drum, marks, &mut out, deck, state, options);
+fn play_on(
+    rt: &impl Print,
+    texts: &impl Print,
+    drum: &mut [u64],
+    marks: &mut [u8],
+    deck: &[u8],
+    state: State,
+    options: Options,
+) {
+    let mut out = cards_room();
+    let g = run_as(rt, texts, drum, marks, &mut out, deck, state, options);
     if g.sent {
         let ending = g.ending;
         let after = g.state;
-        tell(ending, after, g.count);
+        tell(rt, texts, ending, after, g.count);
     }
 }
 
 // A deck is loaded on an empty drum and run.
-fn play(deck: &[u8], options: Options) {
+fn play(rt: &impl Print, texts: &impl Print, deck: &[u8], options: Options) {
     let mut drum = empty_drum();
     let mut marks = no_marks();
     let x = load_as(&mut drum, &mut marks, deck, states::none(), options);
     let loading = x.loading;
     let state = x.state;
     match loading {
-        Loading::NotLoaded(b) => tell_refused(b, deck),
-        Loading::Loaded => play_on(&mut drum, &mut marks, deck, state, options),
+        Loading::NotLoaded(b) => tell_refused(rt, texts, b, deck),
+        Loading::Loaded => play_on(rt, texts, &mut drum, &mut marks, deck, state, options),
     }
 }
 
 // The deck at path is loaded on an empty drum and run.
-pub fn session(path: &[u8], options: Options) {
+pub fn session(rt: &(impl Files + Print), texts: &impl Print, path: &[u8], options: Options) {
     let mut room = deck_room();
-    let deck = disk::read_whole(&mut room, path);
+    let deck = disk::read_whole(rt, texts, &mut room, path);
     if deck.good {
         let n = deck.count;
-        play(&room[..n], options);
+        play(rt, texts, &room[..n], options);
     }
 }

@@ -11,9 +11,9 @@ use octets::put_byte;
 // The first line of a data or trace card.
 pub(crate) fn put_head(out: &mut [u8], title: &[u8], rest: &[u8], back: usize)
     requires title_len { length title.now ≡ 6 }
-    requires le_back { 8 ≤ back }
-    requires back_in_bounds { back + 3 ≤ length rest.now }
-    requires in_bounds { 32 ≤ length out.old }
+    requires back_behind { 8 ≤ back }
+    requires card_in { back + 3 ≤ length rest.now }
+    requires room_left { 32 ≤ length out.old }
     ensures { out.new ≡ splice 0 (head_line title.now rest.now back) out.old }
 {
     put(out, 0, title, rest, 1, 4);
@@ -24,8 +24,8 @@ pub(crate) fn put_head(out: &mut [u8], title: &[u8], rest: &[u8], back: usize)
 
 // The lines of the first n words, behind the first line.
 fn put_cells(out: &mut [u8], rest: &[u8], location: usize, n: usize)
-    requires n_in_bounds { 32 + 44 * n ≤ length out.old }
-    requires n_bound { location + n ≤ 1000 }
+    requires room_left { 32 + 44 * n ≤ length out.old }
+    requires cells_in { location + n ≤ 1000 }
     ensures { out.new ≡ splice 32 (cell_lines rest.now location n) out.old }
 {
     let mut i: usize = 0;
@@ -38,8 +38,8 @@ fn put_cells(out: &mut [u8], rest: &[u8], location: usize, n: usize)
 
 // The lines of a data card.
 pub(crate) fn write_data(out: &mut [u8], rest: &[u8], location: usize, n: usize) -> usize
-    requires n_in_bounds { 11 + 11 * n ≤ length rest.now }
-    requires n_bound { location + n ≤ 1000 }
+    requires card_in { 11 + 11 * n ≤ length rest.now }
+    requires cells_in { location + n ≤ 1000 }
     ensures { WroteLine (data_lines rest.now location n) out.old result out.new }
 {
     let size = 32 + 44 * n;
@@ -53,8 +53,8 @@ pub(crate) fn write_data(out: &mut [u8], rest: &[u8], location: usize, n: usize)
 
 // The line of a first-order card.
 fn put_first(out: &mut [u8], rest: &[u8])
-    requires in_bounds { 32 ≤ length out.old }
-    requires in_bounds_2 { 7 ≤ length rest.now }
+    requires room_left { 32 ≤ length out.old }
+    requires card_in { 7 ≤ length rest.now }
     ensures { out.new ≡ splice 0 (first_line rest.now) out.old }
 {
     put(out, 0, b"first order ", rest, 1, 3);

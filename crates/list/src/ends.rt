@@ -4,8 +4,8 @@ ghost use Rattle.faults.specs.Lines.{Says};
 ghost use Rattle.list.specs.Listing.{none_seen, with_kind, is_second, wrong_in, wrong_met, end_line, last_line};
 
 use crate::kinds::stop_bad;
-use octets::byte_at;
 use faults::{Line, sum};
+use octets::byte_at;
 use rules::{Card, Fault};
 
 // What has been listed of a file: how many cards, whether one is a first-order card, and whether one stands in no deck.

@@ -27,8 +27,8 @@ fn size_of(address: usize, cell: Cell) -> usize
 // The line of the cell at an address, at a place of the output. It answers how many bytes that is.
 fn put_marked(out: &mut [u8], at: usize, drum: &[u64], marks: &[u8], address: usize) -> usize
     requires { at + length (line_of address (cell_at (view drum.now marks.now) address)) ≤ length out.old }
-    ensures value { result ≡ length (line_of address (cell_at (view drum.now marks.now) address)) }
-    ensures out_after { out.new ≡ splice at (line_of address (cell_at (view drum.now marks.now) address)) out.old }
+    ensures size { result ≡ length (line_of address (cell_at (view drum.now marks.now) address)) }
+    ensures written { out.new ≡ splice at (line_of address (cell_at (view drum.now marks.now) address)) out.old }
 {
     let n = size_of(address, drum::cell(drum, marks, address));
     if n == 0 {

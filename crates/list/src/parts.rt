@@ -6,8 +6,8 @@ use octets::{copy, put_run};
 
 // A text at place a, and n bytes of another run behind it.
 pub(crate) fn put(out: &mut [u8], a: usize, text: &[u8], from: &[u8], b: usize, n: usize)
-    requires n_in_bounds { a + length text.now + n ≤ length out.old }
-    requires n_in_bounds_2 { b + n ≤ length from.now }
+    requires room_left { a + length text.now + n ≤ length out.old }
+    requires part_in { b + n ≤ length from.now }
     ensures { out.new ≡ splice a (text.now ++ take n (drop b from.now)) out.old }
 {
     let t = text.len();

@@ -8,8 +8,8 @@ use crate::parts::put;
 use octets::put_byte;
 
 fn put_stop(out: &mut [u8], rest: &[u8])
-    requires in_bounds { 54 ≤ length out.old }
-    requires in_bounds_2 { 24 ≤ length rest.now }
+    requires room_left { 54 ≤ length out.old }
+    requires card_in { 24 ≤ length rest.now }
     ensures { out.new ≡ splice 0 (stop_line rest.now) out.old }
 {
     put(out, 0, b"stop  ", rest, 1, 2);

@@ -11,8 +11,8 @@ use octets::put_byte;
 
 // The lines behind the orders: the loop box, and three words.
 fn put_shown(out: &mut [u8], rest: &[u8])
-    requires in_bounds { 232 ≤ length out.old }
-    requires in_bounds_2 { 77 ≤ length rest.now }
+    requires room_left { 232 ≤ length out.old }
+    requires card_in { 77 ≤ length rest.now }
     ensures { out.new ≡ splice 132 (shown_lines rest.now) out.old }
 {
     put(out, 132, b"  loop box   ", rest, 32, 3);
@@ -26,8 +26,8 @@ fn put_shown(out: &mut [u8], rest: &[u8])
 
 // All of them.
 fn put_trace(out: &mut [u8], rest: &[u8])
-    requires in_bounds { 232 ≤ length out.old }
-    requires in_bounds_2 { 77 ≤ length rest.now }
+    requires room_left { 232 ≤ length out.old }
+    requires card_in { 77 ≤ length rest.now }
     ensures { out.new ≡ splice 0 (trace_lines rest.now) out.old }
 {
     let stored = card::word_of(rest, 0);

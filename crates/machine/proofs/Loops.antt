@@ -1,8 +1,8 @@
 -- Loops, said of the machine that the lent runs show: no count goes past 999, since a raised box stays only while its largest named
 -- count is below B. Assumes nothing.
 use Prim.Native.Nat.{ℕ, ◌+◌, ◌≤◌, ◌<◌, max}
-use mathlib.Core.Path.{◌≡◌, refl, sym, ap, ◌∙◌}
-use mathlib.Core.List.{List, [], ◌∷◌}
+use mathlib.Core.Path.{◌≡◌, refl, ap, ◌∙◌}
+use mathlib.Core.List.{List}
 use mathlib.Core.Bool.{Bool, true, false}
 use native.Mathlib.Omega.{arith}
 use lib.ListN.{get_or, set}
@@ -10,7 +10,7 @@ use borrow.Author.Tests.{lt-ltb, le-ltb}
 use Rattle.rules.specs.Machine.{Machine, done, count_a, count_b, count_c}
 use Rattle.rules.specs.Orders.{raise, named, largest, raised, looped}
 use Rattle.rules.specs.declared.Outcome.TheVariants.{GoesOn}
-use Rattle.machine.specs.Lent.{row_of, Steady, Shows, Did}
+use Rattle.machine.specs.Lent.{Steady, Shows, Did}
 
 -- a raised count is at most what it is compared by, or what it was
 raise-fits : (x : Bool) (n k : ℕ) → n ≤ 999 → named x n ≤ k → k ≤ 999 → raise x n ≤ 999

@@ -1,6 +1,6 @@
 -- No order changes the mode: so the table of codes is laid out for it once a run. Assumes nothing.
 use Prim.Native.Nat.{ℕ, zero, suc, ◌+◌, ◌-◌}
-use mathlib.Core.Path.{◌≡◌, refl, ◌∙◌}
+use mathlib.Core.Path.{◌≡◌, refl}
 use mathlib.Core.Bool.{Bool, true, false}
 use lib.Dec.{eqb, leb, ltb}
 use lib.ListN.{length}
@@ -9,7 +9,7 @@ use Rattle.rules.specs.Drum.{cell_at, word_at}
 use Rattle.rules.specs.Decks.{judged_from}
 use Rattle.rules.specs.Codes.{codes, lookup, checked}
 use Rattle.rules.specs.Machine.{Machine, Inputs, Answer, counting, clear_box, is_traced, is_tracing, with_state, tracing_set, going_to, onward, done, undone}
-use Rattle.rules.specs.Orders.{reckoned_by, stops_by_loss, reckoned, cond_stopped, gone, largest, raised, changed_word, changed, five, card_punched, cards_punched, punch_size, punched, read, tracing_to, retraced, performed}
+use Rattle.rules.specs.Orders.{reckoned_by, stops_by_loss, reckoned, cond_stopped, gone, largest, raised, changed_word, changed, five, card_punched, cards_punched, punch_size, punched, read, retraced, performed}
 use Rattle.rules.specs.Running.{order_fits, as_done, allowed, obeyed_as, code_done, obeyed, trace_size, trace_sent, traced, fetched, step}
 use Rattle.rules.specs.declared.Cell.{Cell}
 use Rattle.rules.specs.declared.Cell.TheVariants.{Foreign, Owned}

@@ -16,7 +16,7 @@ use Rattle.rules.specs.declared.Refusal.TheVariants.{NoRoom}
 use Rattle.rules.proofs.Parts.{part_of, put_back}
 use Rattle.rules.proofs.Punching.{card_bytes}
 use Rattle.card.specs.Written.{Wrote as WroteCard, data_may}
-use Rattle.card.proofs.Writes.{all_words}
+use Rattle.card.proofs.Writes.{all_words_lem}
 use Rattle.drum.specs.Blocks.{first_words}
 use Rattle.drum.proofs.Cells.{seen}
 use Rattle.drum.proofs.Runs.{gathered}
@@ -49,7 +49,7 @@ module _ {drum₀ out₀ drum marks out row : List ℕ} {m : Machine} (h : Shows
         le-leb 1 b low,
         le-leb (b + n) 1000 top,
         le-leb (get_or row₁ 5 0) 999 (omega (arith, h.steady.problem_fits)),
-        all_words m.cells b n h.memory.words,
+        all_words_lem m.cells b n h.memory.words,
       )
 
   pub card_sent_lem : {said : Bool} {part row' : List ℕ}

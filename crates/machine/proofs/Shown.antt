@@ -1,18 +1,16 @@
 -- What the lent runs show after an order, said of plain lists: a cell read, a word stored, a number of the ten changed. Assumes nothing.
 use Prim.Native.Nat.{ℕ, ◌+◌, ◌≤◌, ◌<◌}
-use mathlib.Core.Path.{◌≡◌, refl, sym, ap, subst, ◌∙◌}
+use mathlib.Core.Path.{◌≡◌, refl, ap, ◌∙◌}
 use mathlib.Core.List.{List}
-use native.Mathlib.Omega.{arith}
-use lib.ListN.{length, get_or, set}
+use lib.ListN.{get_or, set}
 use Rattle.rules.specs.Drum.{view, word_at}
-use Rattle.rules.specs.Machine.{Machine, with_state, stored, going_to, onward, done, stops}
+use Rattle.rules.specs.Machine.{Machine, stored, going_to, onward, done, stops}
 use Rattle.rules.specs.declared.Cell.{Cell}
-use Rattle.rules.specs.declared.State.{State}
 use Rattle.rules.specs.declared.Outcome.{Outcome}
 use Rattle.rules.specs.declared.Outcome.TheVariants.{GoesOn}
 use Rattle.drum.specs.Held.{Ready, Holds, Stored}
 use Rattle.drum.proofs.Cells.{seen, kept}
-use Rattle.machine.specs.Lent.{row_of, Fitting, Steady, Shows, Did}
+use Rattle.machine.specs.Lent.{Fitting, Shows, Did}
 
 -- ---- cells
 

@@ -4,7 +4,7 @@ use mathlib.Core.Path.{◌≡◌, refl, subst}
 use mathlib.Core.List.{List}
 use native.Mathlib.Omega.{arith}
 use lib.ListN.{get_or, set}
-use Rattle.rules.specs.Machine.{Machine, Answer, stored, going_to, onward, done}
+use Rattle.rules.specs.Machine.{Machine, stored, going_to, onward, done}
 use Rattle.rules.specs.Orders.{result_at}
 use Rattle.rules.specs.declared.Reckoned.{Reckoned}
 use Rattle.rules.specs.declared.Reckoned.TheVariants.{Result}

@@ -7,11 +7,11 @@ use native.Mathlib.Omega.{arith}
 use lib.Dec.{eqb}
 use lib.ListN.{get_or, set}
 use Rattle.rules.specs.Words.{pick}
-use Rattle.rules.specs.Machine.{Machine, Answer, is_traced, with_state, stored, onward, done, tracing_set}
+use Rattle.rules.specs.Machine.{Machine, is_traced, with_state, stored, onward, done, tracing_set}
 use Rattle.rules.specs.Orders.{tracing_to, erased}
 use Rattle.rules.specs.declared.Outcome.TheVariants.{GoesOn}
 use Rattle.drum.specs.Held.{Stored}
-use Rattle.machine.specs.Lent.{row_of, Turned, Shows, Did}
+use Rattle.machine.specs.Lent.{Turned, Shows, Did}
 use Rattle.machine.proofs.Shown.{with_word_lem, location_is, went_on}
 
 module _ {drum₀ out₀ drum marks out row row' : List ℕ} {m : Machine} (h : Shows drum₀ out₀ drum marks out row m) (t : ℕ) where

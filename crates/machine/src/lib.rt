@@ -1,4 +1,6 @@
 // Load and run on a lent drum, its marks, a deck and an output. Only these two are shown; each family of orders has a module of its own.
+#![tactic(auto)]
+
 mod changing;
 mod comparing;
 mod entering;

@@ -28,7 +28,7 @@ fn perform(
     deck: &[u8],
 ) -> Outcome
     requires ready { Ready drum.old marks.old × Begun out.old row.old }
-    requires b_bound { (b < 1000) × (c < 1000) × Allowed o a b c }
+    requires order_allowed { (b < 1000) × (c < 1000) × Allowed o a b c }
     ensures { (i : Inputs) → Lends deck.now switches i →
         Does i drum.old marks.old out.old row.old
         drum.new marks.new out.new row.new result (λ m. performed i m o a b c) }

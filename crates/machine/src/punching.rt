@@ -23,7 +23,7 @@ fn at_most_five(n: usize) -> usize
 // The counter rises, and the card of the n cells from b on is written.
 fn punch_card(drum: &[u64], marks: &[u8], out: &mut [u8], row: &mut [u64; 10], b: usize, n: usize)
     requires fitting { Fitting row.old }
-    requires le_b { (1 ≤ b) × (b + n ≤ 1000) × (1 ≤ n) × (n ≤ 5) × (get_or row.old 9 0 + (11 + 11 * n) ≤ length out.old) }
+    requires block_fits { (1 ≤ b) × (b + n ≤ 1000) × (1 ≤ n) × (n ≤ 5) × (get_or row.old 9 0 + (11 + 11 * n) ≤ length out.old) }
     ensures { (row.new ≡ card_sent row.old (11 + 11 * n)) × Sends drum.now marks.now
         out.old row.old out.new row.new (λ m. card_punched m b n) }
 {
@@ -39,7 +39,7 @@ fn punch_card(drum: &[u64], marks: &[u8], out: &mut [u8], row: &mut [u64; 10], b
 // The cards of the n cells from b on, and on to the next order.
 fn punch_cards(drum: &[u64], marks: &[u8], out: &mut [u8], row: &mut [u64; 10], b: usize, n: usize)
     requires fitting { Fitting row.old }
-    requires le_b { (1 ≤ b) × (b + n ≤ 1000) × (get_or row.old 9 0 + punch_size n ≤ length out.old) }
+    requires block_fits { (1 ≤ b) × (b + n ≤ 1000) × (get_or row.old 9 0 + punch_size n ≤ length out.old) }
     ensures { Sends drum.now marks.now out.old row.old out.new row.new
         (λ m. onward (cards_punched n m b n)) }
 {
@@ -64,7 +64,7 @@ pub fn punch(
     c: usize,
 ) -> Outcome
     requires fitting { Fitting row.old }
-    requires le_b { (1 ≤ b) × (b ≤ c) × (c < 1000) × (get_or row.old 9 0 ≤ length out.old) }
+    requires block_fits { (1 ≤ b) × (b ≤ c) × (c < 1000) × (get_or row.old 9 0 ≤ length out.old) }
     ensures { (i : Inputs) → Does i drum.now marks.now out.old row.old
         drum.now marks.now out.new row.new result (λ m. punched i m b (c + 1 - b)) }
 {

@@ -12,8 +12,8 @@ use rules::{Card, Judged, Outcome};
 
 // The words of the card at the start of d go to the cells from `location` on.
 fn store_words(drum: &mut [u64], marks: &mut [u8], d: &[u8], location: usize, words: usize)
-    requires words_bound { location + words ≤ 1000 }
-    requires by_index { (i : ℕ) → i < words → word_in d.now (word_place i) ≤ 19999999999 }
+    requires cells_in { location + words ≤ 1000 }
+    requires words_fit { (i : ℕ) → i < words → word_in d.now (word_place i) ≤ 19999999999 }
     ensures { Keeps drum.old marks.old drum.new marks.new
         (words_stored d.now location words) }
 {

@@ -38,8 +38,8 @@ fn trace_words(drum: &[u64], marks: &[u8], row: &[u64; 10], w: u64, x: u64) -> [
 
 // The counter rises, and that card is written.
 pub fn trace(drum: &[u64], marks: &[u8], out: &mut [u8], row: &mut [u64; 10], w: u64, x: u64)
-    requires fitting { Fitting row.old × (1 ≤ get_or row.old 0 0) }
-    requires w_bound { (w ≤ 19999999999) × (x ≤ 19999999999) × (get_or row.old 9 0 + 77 ≤ length out.old) }
+    requires row_fits { Fitting row.old × (1 ≤ get_or row.old 0 0) }
+    requires words_fit { (w ≤ 19999999999) × (x ≤ 19999999999) × (get_or row.old 9 0 + 77 ≤ length out.old) }
     ensures { (row.new ≡ card_sent row.old 77) × Sends drum.now marks.now
         out.old row.old out.new row.new (λ m. trace_sent m w x) }
 {

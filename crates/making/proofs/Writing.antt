@@ -20,7 +20,7 @@ use Rattle.octets.specs.Put.{splice}
 use Rattle.octets.proofs.Joins.{Put, length-splice, put_nothing, put_part, put_over, part_spliced}
 use Rattle.octets.proofs.Splices.{splice_start}
 use Rattle.card.specs.Written.{Wrote, data_may, first_may}
-use Rattle.card.proofs.Writes.{all_words, was_whole}
+use Rattle.card.proofs.Writes.{all_words_lem, was_whole}
 use Rattle.drum.specs.Held.{Words}
 use Rattle.drum.specs.Blocks.{first_words}
 use Rattle.drum.proofs.Runs.{gathered}
@@ -53,7 +53,7 @@ module _ (v : List Cell) (h : Words v) (words out : List ℕ) (at number a n pro
         le-leb 1 a low,
         le-leb (a + n) 1000 top,
         le-leb problem 999 posed,
-        all_words v a n h,
+        all_words_lem v a n h,
       ) in
       stands at _ out p
       (subst (λ (ws : List ℕ). Wrote (data_may number a words n problem) (data_card number a ws problem) (part_of at out) said p) words_are w) may

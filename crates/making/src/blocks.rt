@@ -6,8 +6,8 @@ ghost use Rattle.rules.specs.Making.{neighbours, deck_made};
 // How many cells a card has that begins at a: the marked ones from there on, one behind the other, up to five.
 pub(crate) fn card_from(drum: &[u64], marks: &[u8], a: usize) -> usize
     requires { a ≤ 1000 }
-    ensures value { result ≡ neighbours (view drum.now marks.now) a 5 }
-    ensures upper_bound { result ≤ 5 }
+    ensures size { result ≡ neighbours (view drum.now marks.now) a 5 }
+    ensures few { result ≤ 5 }
 {
     let mut n: usize = 0;
     while n < 5 {

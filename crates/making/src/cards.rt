@@ -22,7 +22,7 @@ fn write_card(
     problem: u64,
 )
     requires sound { Sound drum.now marks.now }
-    requires le_a { (1 ≤ a) × (a + n ≤ 1000) × (1 ≤ n) × (n ≤ 5) × (number ≤ 9999) × (problem ≤ 999) × (at + (11 + 11 * n) ≤ length out.old) }
+    requires block_fits { (1 ≤ a) × (a + n ≤ 1000) × (1 ≤ n) × (n ≤ 5) × (number ≤ 9999) × (problem ≤ 999) × (at + (11 + 11 * n) ≤ length out.old) }
     ensures { out.new
         ≡ splice at (data_card number a (words_from (view drum.now marks.now) a n) problem) out.old }
 {
@@ -33,10 +33,10 @@ fn write_card(
 // All data cards over the start of the output, numbered from 1; it answers how many bytes they are.
 fn write_cards(drum: &[u64], marks: &[u8], out: &mut [u8], problem: u64) -> usize
     requires sound { Sound drum.now marks.now }
-    requires problem_bound { problem ≤ 999 }
-    requires problem_in_bounds { length (cards_of drum.now marks.now problem) ≤ length out.old }
-    ensures value { result ≡ length (cards_of drum.now marks.now problem) }
-    ensures out_after { out.new ≡ over (cards_of drum.now marks.now problem) out.old }
+    requires problem_fits { problem ≤ 999 }
+    requires room_left { length (cards_of drum.now marks.now problem) ≤ length out.old }
+    ensures size { result ≡ length (cards_of drum.now marks.now problem) }
+    ensures written { out.new ≡ over (cards_of drum.now marks.now problem) out.old }
 {
     let mut at: usize = 0;
     let mut number: u64 = 1;
@@ -58,8 +58,8 @@ fn write_cards(drum: &[u64], marks: &[u8], out: &mut [u8], problem: u64) -> usiz
 // The whole deck over the start of the output: the data cards, then the first-order card.
 pub(crate) fn write_deck(drum: &[u64], marks: &[u8], out: &mut [u8], order: usize, problem: u64)
     requires sound { Sound drum.now marks.now }
-    requires le_order { (1 ≤ order) × (order ≤ 999) × (problem ≤ 999) }
-    requires problem_in_bounds { length (deck_made (view drum.now marks.now) order problem) ≤ length out.old }
+    requires order_fits { (1 ≤ order) × (order ≤ 999) × (problem ≤ 999) }
+    requires room_left { length (deck_made (view drum.now marks.now) order problem) ≤ length out.old }
     ensures { out.new ≡ over (deck_made (view drum.now marks.now) order problem) out.old }
 {
     let at = write_cards(drum, marks, out, problem);

@@ -1,4 +1,6 @@
 // A load deck made of a drum's marked cells, to keep a prepared drum. Only `make` is shown; it takes runs of any length and any numbers.
+#![tactic(auto)]
+
 mod blocks;
 mod cards;
 

@@ -10,7 +10,7 @@ use lib.Dec.{eqb, leb}
 use lib.Pow.{pow-add}
 use borrow.Author.Tests.{eqb-true, eqb-false, leb-true, leb-false}
 use Rattle.rules.specs.Words.{pick}
-use Rattle.rules.specs.Rounding.{single, placed, settled, fraction}
+use Rattle.rules.specs.Rounding.{single, placed, settled, fraction, sum}
 use Rattle.rules.specs.Arithmetic.{word_of}
 use Rattle.rules.specs.declared.Reckoned.TheVariants.{Result}
 use Rattle.rules.proofs.Nearest.{ten_rises}
@@ -72,6 +72,10 @@ module _ (s m x t n y : ℕ) (al : Aligned s m x t n y) where
   far l =
       let some : 0 < x = omega (arith, l) in
       sym (far_at single s m x t n y al.order (omega (arith, al.least some)) al.most (omega (arith, al.other, ten_rises l)))
+
+  -- as the words of these
+  pub far_word : 10 ≤ x - y → word_of (sum single s (m * 10 ^ (x + 100)) t (n * 10 ^ (y + 100))) ≡ word_of (placed single s m (x + 100))
+  far_word l = ap word_of (sym (far l))
 
   -- the digits of the first, moved up by r
   module _ (r : ℕ) (near : x - y < 10) (is : r ≡ power_of (x - y)) where

@@ -1,12 +1,12 @@
 -- The newsletter's steps from its own first guess arrive at the root, for every leading part. Assumes nothing.
-use Prim.Native.Nat.{ℕ, zero, suc, ◌+◌, ◌-◌, ◌*◌, ◌/◌, ◌%◌, ◌^◌, ◌≤◌, ◌<◌}
+use Prim.Native.Nat.{ℕ, zero, suc, ◌+◌, ◌-◌, ◌*◌, ◌/◌, ◌^◌, ◌≤◌, ◌<◌}
 use mathlib.Core.Path.{◌≡◌, sym, ap, subst, subst₂}
-use mathlib.Core.Logic.{◌⊎◌, inl, inr}
-use native.Mathlib.Nat.{mul-le-mul, mul-le-mul_left, mul-pos, le_of_mul-le-mul_right, lt_of_mul-lt-mul_right}
+use mathlib.Core.Logic.{inl, inr}
+use native.Mathlib.Nat.{mul-le-mul, mul-le-mul_left, mul-pos, le_of_mul-le-mul_right}
 use native.Mathlib.Omega.{arith}
 use lib.Dec.{lit≤}
 use Rattle.rules.proofs.Roots.{no_larger}
-use Rattle.number.specs.Steps.{doubled, scaled, guess, above, beneath, second, even_scale, odd_scale, Chosen, third, Within, OneMore, Arrives, StepsArrive}
+use Rattle.number.specs.Steps.{scaled, guess, above, beneath, second, even_scale, odd_scale, Chosen, third, Within, OneMore, StepsArrive}
 use Rattle.number.proofs.Newton.{Near, four_times, first_step, never_low, how_high, scaled_low, scaled_high, rounded}
 
 -- what is divided by in the second step, by a scale c
@@ -180,10 +180,6 @@ module _ (b : ℕ) (some : 10 ^ 9 ≤ b) (few : b ≤ 10 ^ 10) where
   pub n_some : (n scale : ℕ) → Chosen b n scale → (0 < n) × (n ≤ 10 ^ 16)
   n_some n scale (inl (even, u, s)) = (omega arith, omega arith)
   n_some n scale (inr (odd, u, s)) = (omega arith, omega arith)
-
-  pub scale_some : (n scale : ℕ) → Chosen b n scale → (4710092 ≤ scale) × (scale ≤ 14894620)
-  scale_some n scale (inl (even, u, s)) = (omega arith, omega arith)
-  scale_some n scale (inr (odd, u, s)) = (omega arith, omega arith)
 
 pub steps_arrive : StepsArrive
 steps_arrive b some few =

@@ -1,6 +1,6 @@
 -- The newsletter's step toward a root, from a fraction p over q: it does not come below the root, and from d over q off the root it comes to no
 -- more above it than half the square of that, over the fraction. Assumes nothing.
-use Prim.Native.Nat.{ℕ, zero, suc, ◌+◌, ◌-◌, ◌*◌, ◌/◌, ◌^◌, ◌≤◌, ◌<◌}
+use Prim.Native.Nat.{ℕ, zero, suc, ◌+◌, ◌-◌, ◌*◌, ◌/◌, ◌≤◌, ◌<◌}
 use mathlib.Core.Path.{◌≡◌, refl, sym, ap, subst, ◌∙◌}
 use native.Mathlib.Nat.{mul-le-mul, mul-le-mul_left, mul-pos, le_of_mul-le-mul_right, lt_of_mul-lt-mul_right, div-mul-le_self, lt-div-mul-add, lt_of_not-le, add-mul-div_right}
 use native.Mathlib.Decide.{dec_le}
@@ -114,9 +114,6 @@ module _ (n x : ℕ) (some : 0 < x) (p : Near n x) where
       le_of_mul-le-mul_right
       (omega (arith, subst (λ (z : ℕ). (z - 2) * x * ((z - 2) * x) ≤ 4 * (n * (x * 1 * (x * 1)))) (sym whole) (how_high n x 1 x some p.off p.least w 2 p.small)))
       (mul-pos some some)
-
-  pub last_most : n < 10 ^ 16 → doubled n x ≤ 200000001
-  last_most few = omega (arith, no_larger (4 * n) (doubled n x - 2) 199999999 high (omega arith))
 
   last_least : 0 < n → 1 ≤ doubled n x
   last_least above = no_larger (4 * n) 1 (doubled n x) (omega arith) low

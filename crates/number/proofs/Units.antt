@@ -1,13 +1,16 @@
 -- Rounding in 64 bits: whoever has found the unit has found the definition's answer. Assumes nothing.
-use Prim.Native.Nat.{ℕ, ◌+◌, ◌*◌, ◌/◌, ◌^◌, ◌≤◌, ◌<◌}
+use Prim.Native.Nat.{ℕ, ◌+◌, ◌-◌, ◌*◌, ◌/◌, ◌^◌, ◌≤◌, ◌<◌}
 use mathlib.Core.Path.{◌≡◌, refl, sym, ap, subst, ◌∙◌}
 use native.Mathlib.Nat.{pow-suc, div-one}
 use native.Mathlib.Numerals.{add-one}
 use native.Mathlib.Omega.{arith}
+use Rattle.rules.specs.Arithmetic.{word_of}
 use Rattle.rules.specs.Rounding.{single, nearest, placed, settled}
 use Rattle.rules.specs.Rounded.{Rounded}
+use Rattle.rules.specs.declared.Reckoned.TheVariants.{Result, Refused}
+use Rattle.rules.specs.declared.Refusal.TheVariants.{OutOfRange}
 use Rattle.rules.proofs.Rounded.{unit_rounded}
-use Rattle.rules.proofs.Rounding.{settled_is}
+use Rattle.rules.proofs.Rounding.{placed-within, placed_below, placed-above, settled_is}
 
 -- the unit u is the power e of ten, and in units a tenth as large there would be more than eight digits
 pub record Unit (h u e : ℕ) : Type 0 where
@@ -39,3 +42,16 @@ eight_already h s j x least most i =
     settles h 1 0 (record { power = refl; full = omega arith }) (omega arith) s j x i
     ∙ ap (λ (v : ℕ). placed single s ((v + 1) / 2) (j + 0)) (div-one h)
     ∙ ap (placed single s ((h + 1) / 2)) here
+
+-- the word of sign s and digits m at the place e, whose exponent is judged
+module _ (s m e : ℕ) where
+  pub word_below : e < 100 → word_of (placed single s m e) ≡ Refused OutOfRange
+  word_below l = ap word_of (placed_below single s m e l)
+
+  pub word_above : 200 ≤ e → word_of (placed single s m e) ≡ Refused OutOfRange
+  word_above l = ap word_of (placed-above single s m e l)
+
+  pub word_within : 100 ≤ e → e < 200 → word_of (placed single s m e) ≡ Result (s * 10000000000 + m * 100 + (e - 100))
+  word_within l g = ap word_of (placed-within single s m e l g)
+
+pub ruleset placed_words = (word_below, word_above, word_within)

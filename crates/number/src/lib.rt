@@ -1,4 +1,6 @@
 // Word arithmetic: the exact result of two numbers, or of one, rounded once to eight digits. A word that is no number is refused.
+#![tactic(auto)]
+
 mod losses;
 mod orders;
 mod products;

@@ -7,6 +7,7 @@ ghost use Rattle.number.specs.Asked.{NearUnit};
 use rules::{Reckoned, Refusal};
 
 // The word of sign s, digits m and the place e, which is its exponent and 100 more. The exponent is judged here, last of all.
+#[tactic(auto, using(crate::proofs::Units::placed_words))]
 pub(crate) fn judged(s: u64, m: u64, e: u64) -> Reckoned
     requires { (s ≤ 1) × (m < 10 ^ 8) }
     ensures { result ≡ word_of (placed single s m e) }

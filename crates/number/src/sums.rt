@@ -2,7 +2,7 @@
 ghost use Rattle.std.specs.Prelude.{◌≡◌, true, ◌+◌, ◌-◌, ◌*◌, ◌^◌, ◌≤◌, ◌<◌, eqb, leb};
 ghost use Rattle.rules.specs.Words.{pick, is_number, sign_in};
 ghost use Rattle.rules.specs.Rounding.{single, settled, fraction, scaled};
-ghost use Rattle.rules.specs.Rounding.{sum as sumBy};
+ghost use Rattle.rules.specs.Rounding.{sum as rounded_sum};
 ghost use Rattle.rules.specs.Arithmetic.{value_in, word_of, add_of, sub_of};
 ghost use Rattle.number.specs.Asked.{Aligned};
 
@@ -77,9 +77,10 @@ fn kept(s: u64, t: u64, p: u64, n: u64) -> u64
 
 // The sum of two numbers taken apart: signs s and t, digits m and n, exponents x and y, of which y is no larger. From ten places on the
 // second number changes no digit of the first; below that the sum is exact.
+#[tactic(auto, using(crate::proofs::Aligning::far_word))]
 fn aligned(s: u64, m: u64, x: u64, t: u64, n: u64, y: u64) -> Reckoned
     requires { Aligned s m x t n y }
-    ensures { result ≡ word_of (sumBy single s (m * 10 ^ (x + 100)) t (n * 10 ^ (y + 100))) }
+    ensures { result ≡ word_of (rounded_sum single s (m * 10 ^ (x + 100)) t (n * 10 ^ (y + 100))) }
 {
     let apart = x - y;
     if 10 <= apart {
@@ -92,7 +93,7 @@ fn aligned(s: u64, m: u64, x: u64, t: u64, n: u64, y: u64) -> Reckoned
 // The sum of the number a and of the digits of b with the sign t.
 fn plus(a: u64, b: u64, t: u64) -> Reckoned
     requires { (is_number a ≡ true) × (is_number b ≡ true) × (t ≤ 1) }
-    ensures { result ≡ word_of (sumBy single (sign_in a) (scaled single (value_in a)) t (scaled single (value_in b))) }
+    ensures { result ≡ word_of (rounded_sum single (sign_in a) (scaled single (value_in a)) t (scaled single (value_in b))) }
 {
     let s = a / 10_000_000_000;
     let m = a % 10_000_000_000 / 100;

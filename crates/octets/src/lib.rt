@@ -1,5 +1,7 @@
 // Bytes copied, and decimal digits written and read, each in one place. Each function that is shown here takes any bytes and any numbers:
 // what does not fit where it is to stand is not written.
+#![tactic(auto)]
+
 mod fields;
 mod puts;
 mod reads;

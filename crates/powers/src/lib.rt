@@ -1,4 +1,6 @@
 // Powers of ten. This is the project's one table of them.
+#![tactic(auto)]
+
 ghost use Rattle.std.specs.Prelude.{◌≡◌};
 ghost use Rattle.powers.specs.Powers.{power_of};
 

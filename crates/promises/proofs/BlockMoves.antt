@@ -1,6 +1,6 @@
 -- Why block moves and address tests do what is said of them: such an order is found in the table by its first digit, its checks go by its class,
 -- and what it then does is what the rules say. Assumes nothing.
-use Prim.Native.Nat.{ℕ, zero, ◌+◌, ◌-◌, ◌*◌, ◌≤◌, ◌<◌}
+use Prim.Native.Nat.{ℕ, ◌+◌, ◌-◌, ◌*◌, ◌≤◌, ◌<◌}
 use mathlib.Core.Path.{◌≡◌, refl, sym, ap, subst, ◌∙◌}
 use mathlib.Core.Bool.{Bool, true, false}
 use native.Mathlib.Omega.{arith}
@@ -18,7 +18,6 @@ use Rattle.rules.specs.declared.Address.TheVariants.{OfA, OfB, OfC}
 use Rattle.rules.specs.declared.Cell.{Cell}
 use Rattle.rules.specs.declared.Cell.TheVariants.{Foreign, Owned}
 use Rattle.rules.specs.declared.Refusal.TheVariants.{BadAddress, Unmarked}
-use Rattle.rules.specs.declared.Checked.{Checked}
 use Rattle.rules.specs.declared.Checked.TheVariants.{Passes}
 use Rattle.rules.specs.declared.Built.TheVariants.{As}
 use Rattle.rules.specs.declared.Class.TheVariants.{BlockMoved, Compared}

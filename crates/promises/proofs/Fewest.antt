@@ -51,7 +51,7 @@ spread_without {v} b (spread_more {s = s} {ss = ss} p ps) = by_among (is_among b
     by_among false rest = spread_more (each_without b p) rest
 
 -- they are on the other cards
-left_over : {ss : List ℕ} (b : Block) (bs : List Block) → Each (λ (s : ℕ). 1 ≤ times (b ∷ bs) s) ss
+left_over : (b : Block) (bs : List Block) {ss : List ℕ} → Each (λ (s : ℕ). 1 ≤ times (b ∷ bs) s) ss
     → Each (λ (s : ℕ). 1 ≤ times bs s) (without b ss)
 unfolding without times
 left_over b bs each_none = each_none

@@ -63,8 +63,8 @@ abbrev made_as : MakeCall → MakeResult
 made_as c = record { making = Made (length (deck_for c)); out = over (deck_for c) c.out }
 
 -- a call that passes its checks makes the deck
-numbers_fit : {c : MakeCall} → Passed c → numbers_fit c.order c.problem ≡ true
-numbers_fit {c} p = simp (le-leb 1 c.order p.from, le-leb c.order 999 p.upto, le-leb c.problem 999 p.posed)
+numbers_fit_lem : {c : MakeCall} → Passed c → numbers_fit c.order c.problem ≡ true
+numbers_fit_lem {c} p = simp (le-leb 1 c.order p.from, le-leb c.order 999 p.upto, le-leb c.problem 999 p.posed)
 
 is_made : (c : MakeCall) → drum_fits (length c.drum) c.marks (cells_of c) ≡ true → numbers_fit c.order c.problem ≡ true
     → length (deck_for c) ≤ length c.out → made c ≡ made_as c
@@ -77,10 +77,10 @@ data Refused (c : MakeCall) : Making → Type 0 where
   number_unfit : Refused c UnfitNumber
   too_long : Fit c.drum c.marks → length c.out < length (deck_for c) → Refused c Full
 
-not_made : {c : MakeCall} {x : Making} {n : ℕ} → Refused c x → x ≡ Made n → ⊥
-not_made drum_unfit e = let z : ◌≡◌ {A = ℕ} 0 1 = cc in omega arith
-not_made number_unfit e = let z : ◌≡◌ {A = ℕ} 0 1 = cc in omega arith
-not_made (too_long f l) e = let z : ◌≡◌ {A = ℕ} 0 1 = cc in omega arith
+not_made_lem : {c : MakeCall} {x : Making} {n : ℕ} → Refused c x → x ≡ Made n → ⊥
+not_made_lem drum_unfit e = let z : ◌≡◌ {A = ℕ} 0 1 = cc in omega arith
+not_made_lem number_unfit e = let z : ◌≡◌ {A = ℕ} 0 1 = cc in omega arith
+not_made_lem (too_long f l) e = let z : ◌≡◌ {A = ℕ} 0 1 = cc in omega arith
 
 -- What is said of a call's result where no deck is made, and where one is made, is said of each.
 module _ (P : MakeResult → Type 0) (c : MakeCall) (not : (x : Making) → Refused c x → P (not_made c x)) (did : Passed c → P (made_as c)) where
@@ -116,7 +116,7 @@ same_made e = cc
 done : (c : MakeCall) (n : ℕ) → (made c).making ≡ Made n → Done c n (made c)
 unfolding over
 done c n =
-    of_make_lem (λ (x : MakeResult). x.making ≡ Made n → Done c n x) c (λ x r e. absurd (not_made r e))
+    of_make_lem (λ (x : MakeResult). x.making ≡ Made n → Done c n x) c (λ x r e. absurd (not_made_lem r e))
     (λ p e. record {
       checks = p;
       long = same_made e;
@@ -231,7 +231,7 @@ module _ (c : MakeCall) (n : ℕ) (h : Done c n (made c)) (drum marks : List ℕ
       let same : deck_for d ≡ deck_for c =
       ap (λ (v : List Cell). deck_made v c.order c.problem) seen_again ∙ deck_same cells (cells_of c) given.others c.order c.problem in
       let long : length (deck_for d) ≡ n = ap length same ∙ h.long in
-      let y : made d ≡ made_as d = is_made d fits-again (numbers_fit h.checks) (omega arith) in
+      let y : made d ≡ made_as d = is_made d fits-again (numbers_fit_lem h.checks) (omega arith) in
       record {
         making_same = ap (λ (x : MakeResult). x.making) y ∙ ap Made long;
         deck_same =

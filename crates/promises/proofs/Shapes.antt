@@ -85,10 +85,10 @@ ascend v a (b ∷ bs) e =
     and_then (leb-true a b.location (both_first (leb a b.location) (both (is_whole v b) rest) e)) (both_first (is_whole v b) rest f)
     (ascend v (b.location + b.cells) bs (both-second (is_whole v b) rest f))
 
-in_order : {v : List Cell} {a : ℕ} {bs : List Block} → Ascend v a bs → in_order v a bs ≡ true
+in_order_lem : {v : List Cell} {a : ℕ} {bs : List Block} → Ascend v a bs → in_order v a bs ≡ true
 unfolding in_order
-in_order no_more = refl
-in_order (and_then {a = a} {b = b} l w r) = simp (le-leb a b.location l, w, in_order r)
+in_order_lem no_more = refl
+in_order_lem (and_then {a = a} {b = b} l w r) = simp (le-leb a b.location l, w, in_order_lem r)
 
 -- none is for a cell before them
 none_before : {v : List Cell} {a : ℕ} {bs : List Block} → Ascend v a bs → (x : ℕ) → x < a → times bs x ≡ 0
@@ -115,7 +115,7 @@ made_ascend (takes {a = a} {n = n} s r c) l =
     and_then {b = record { location = a; cells = n }} l (whole_is r) (made_ascend c (omega arith))
 
 pub rest_last : RestLast
-rest_last v = in_order (made_ascend (all_ahead v).cut (omega arith))
+rest_last v = in_order_lem (made_ascend (all_ahead v).cut (omega arith))
 
 all_bear : {v : List Cell} {k a : ℕ} {bs : List Block} → Cut v k a bs → length v ≡ 1000 → 1 ≤ a → all_may_bear bs ≡ true
 unfolding all_may_bear

@@ -3,7 +3,6 @@ use mathlib.Core.Path.{refl}
 use Rattle.rules.specs.Words
 use Rattle.rules.specs.Rounding
 use Rattle.rules.specs.Arithmetic
-use Rattle.rules.specs.Decks
 use Rattle.rules.specs.Codes
 use Rattle.rules.specs.Orders
 use Rattle.rules.specs.Running

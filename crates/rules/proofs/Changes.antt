@@ -11,7 +11,6 @@ use Rattle.rules.specs.declared.Address.{Address}
 use Rattle.rules.specs.declared.Address.TheVariants.{OfA, OfB, OfC}
 use Rattle.rules.specs.declared.Changing.{Changing}
 use Rattle.rules.specs.declared.Changing.TheVariants.{SetTo, AddTo, SubFrom}
-use Rattle.rules.specs.declared.Reckoned.{Reckoned}
 use Rattle.rules.specs.declared.Reckoned.TheVariants.{Result, Refused}
 use Rattle.rules.specs.declared.Refusal.TheVariants.{BadAddress}
 use Rattle.rules.proofs.Results.{Fits}

@@ -3,12 +3,9 @@
 use Prim.Native.Nat.{ℕ, zero, suc, ◌+◌, ◌*◌, ◌≤◌, ◌<◌}
 use native.Mathlib.Omega.{arith}
 use mathlib.Core.Path.{◌≡◌, refl, ap, ◌∙◌}
-use mathlib.Core.Logic.{⊎_elim}
 use mathlib.Core.List.{List, [], ◌∷◌}
 use lib.ListN.{length, drop, length-drop, drop_of_length-le}
 use lib.Seq.{drop-drop}
-use types.Run.{OneOf}
-use denote.Enum.Declared.{tag_of}
 use Rattle.rules.specs.Cards.{first_size, card_of, word_in, word_place}
 use Rattle.rules.specs.Decks.{card_at, card_size, Piece, cut_from, cards_from, met, checked_from, data_in, data_from}
 use Rattle.rules.specs.declared.Fault.{Fault}
@@ -17,7 +14,6 @@ use Rattle.rules.specs.declared.Card.TheVariants.{Data, First, Bad, End}
 use Rattle.rules.specs.declared.DeckFault.TheVariants.{At}
 use Rattle.rules.specs.declared.Deck.{Deck}
 use Rattle.rules.specs.declared.Deck.TheVariants.{Good, Faulty}
-use Rattle.rules.specs.contracts.Card.{the_type}
 use Rattle.rules.proofs.CardTrips.{data_read}
 use Rattle.rules.proofs.Fields.{word_below}
 
@@ -90,13 +86,13 @@ module _ (deck : List ℕ) (at : ℕ) {number location words problem size : ℕ}
 
 -- a card is no data card, as far as the `else` of a `let` knows
 abbrev pub Other : Card → Type 0
-Other x = OneOf (1 ∷ 2 ∷ 3 ∷ []) (tag_of the_type x)
+Other x = (number location words problem size : ℕ) → x ≡ Data number location words problem size → ⊥
 
 none_in : (at : ℕ) (d : List ℕ) (x : Card) → Other x → card_of d ≡ x → data_in (cut_from 0 at d) ≡ []
 unfolding cut_from data_in
 none_in at [] x t q = refl
 none_in at (b ∷ d) (Data number location words problem size) t q =
-    let z : ⊥ = ⊎_elim (λ y. omega arith) (λ y. ⊎_elim (λ y. omega arith) (λ y. omega arith) y) t in absurd z
+    absurd (t number location words problem size refl)
 none_in at (b ∷ d) (First order problem) t q = rw (q, data_in)
 none_in at (b ∷ d) (Bad f p) t q = rw (q, data_in)
 none_in at (b ∷ d) End t q = rw (q, data_in)

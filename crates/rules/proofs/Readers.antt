@@ -1,6 +1,6 @@
 -- A reader that stands at a card's start, or at the deck's end, stands at one again behind the cards that it has read. By the data cards
 -- behind the first-order card. Assumes nothing.
-use Prim.Native.Nat.{ℕ, ◌+◌, ◌-◌}
+use Prim.Native.Nat.{ℕ, ◌+◌}
 use mathlib.Core.Path.{◌≡◌, refl, sym, ap, subst}
 use mathlib.Core.List.{List, []}
 use mathlib.Core.Bool.{Bool, true, false}

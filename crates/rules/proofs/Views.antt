@@ -9,7 +9,7 @@ use lib.Dec.{eqb, leb}
 use lib.ListN.{length, get_or, set}
 use borrow.Author.Tests.{leb-true, eqb-true}
 use Rattle.rules.specs.Words.{both}
-use Rattle.rules.specs.Drum.{cell_of, view, cell_at, store, mark_of, marks_of, number_over, overlay, marks_fit, words_fit, drum_fits}
+use Rattle.rules.specs.Drum.{cell_of, view, store, mark_of, marks_of, number_over, overlay, marks_fit, words_fit, drum_fits}
 use Rattle.rules.specs.declared.Cell.{Cell}
 use Rattle.rules.specs.declared.Cell.TheVariants.{Foreign, Owned}
 use Rattle.rules.proofs.Tests.{both_first, both-second}

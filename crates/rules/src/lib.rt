@@ -1,5 +1,6 @@
 // The types of the rules: what a cell, a card, an order, an answer is. What they mean is defined in specs/, in the order of the
 // paper; the code of every other crate uses these types and is held to those definitions.
+#![tactic(auto)]
 
 // A cell as the job sees it. One that it does not own has no content here.
 #[derive(Clone, Copy)]

@@ -20,7 +20,7 @@ use Rattle.rules.specs.declared.Making.{Making}
 use Rattle.rules.specs.declared.Making.TheVariants.{Made, UnfitDrum, UnfitNumber, Full}
 use Rattle.rules.proofs.Fields.{length_stop}
 use Rattle.card.specs.Written.{stop_may, fits, Wrote, WroteLine}
-use Rattle.io.specs.Counts.{IsPrefixLen}
+use Rattle.says.specs.Counts.{IsPrefixLen}
 use Rattle.says.specs.Told.{may_close, Closed}
 use Rattle.says.proofs.Counted.{counts}
 

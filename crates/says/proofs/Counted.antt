@@ -4,7 +4,7 @@ use mathlib.Core.Path.{sym}
 use mathlib.Core.List.{List}
 use lib.ListN.{length}
 use lib.Seq.{length-take-le}
-use Rattle.io.specs.Counts.{IsPrefixLen}
+use Rattle.says.specs.Counts.{IsPrefixLen}
 
 pub counts : (n : ℕ) (l : List ℕ) → n ≤ length l → IsPrefixLen n l
 counts n l h = (h, sym (length-take-le n l h))

@@ -1,7 +1,7 @@
 // The closing of a call, as bytes: the Z card of a run, or the line of a call that was refused. A call of make closes with its deck, or with
 // such a line.
 ghost use Rattle.std.specs.Prelude.{◌≡◌, true};
-ghost use Rattle.io.specs.Counts.{IsPrefixLen};
+ghost use Rattle.says.specs.Counts.{IsPrefixLen};
 ghost use Rattle.rules.specs.Cards.{refusal_line};
 ghost use Rattle.rules.specs.Sheet.{closing, make_line};
 ghost use Rattle.says.specs.Told.{may_close, Closed};

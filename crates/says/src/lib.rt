@@ -1,5 +1,7 @@
 // What the program writes of its own: the closing of a call, as bytes, and texts for a person, on standard error. Each function that is
 // shown here takes any bytes and any numbers.
+#![tactic(auto)]
+
 mod closing;
 mod texts;
 

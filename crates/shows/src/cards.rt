@@ -7,6 +7,8 @@ ghost use Rattle.shows.specs.Parts.{may_be_cut, listed_upto};
 use crate::{send, send_first};
 use disk::fill;
 use list::{Seen, is_second, last_line, none_seen, with_kind};
+use std::io::{Print, Read};
+use std::rt::Files;
 
 // How far a part of a file is listed: how many bytes its cards take, and what was seen up to there.
 #[derive(Clone, Copy)]
@@ -42,7 +44,14 @@ fn upto(sent: bool, taken: usize, seen: Seen) -> Listed
 
 // The lines of the cards at the start of a part, behind those that were seen. Where it is not the last of its file, a card that it may have
 // cut short is left.
-fn list_cards(lines: &mut [u8], part: &[u8], last: bool, before: Seen) -> Listed
+fn list_cards(
+    rt: &impl Print,
+    texts: &impl Print,
+    lines: &mut [u8],
+    part: &[u8],
+    last: bool,
+    before: Seen,
+) -> Listed
     ensures taken_in_bounds { result.passed.taken ≤ length part.now }
     ensures passed_value { result.sent ≡ true → result.passed ≡ listed_upto (length part.now) part.now last before 0 }
 {
@@ -67,7 +76,7 @@ fn list_cards(lines: &mut [u8], part: &[u8], last: bool, before: Seen) -> Listed
         if left < size {
             return upto(true, at, seen);
         }
-        if !send_first(lines, n) {
+        if !send_first(rt, texts, lines, n) {
             return upto(false, at, seen);
         }
         at += size;
@@ -90,18 +99,25 @@ fn move_down(room: &mut [u8], from: usize, to: usize)
 }
 
 // Bytes that are the last line of a listing that ends so.
-fn send_last(line: &[u8], seen: Seen, place: usize, rest: &[u8]) -> bool
+fn send_last(
+    rt: &impl Print,
+    texts: &impl Print,
+    line: &[u8],
+    seen: Seen,
+    place: usize,
+    rest: &[u8],
+) -> bool
     requires { line.now ≡ last_line seen place rest.now }
 {
-    send(line)
+    send(rt, texts, line)
 }
 
 // The last line of a listing that ends at a place, where the rest of the file is these bytes.
-fn end_at(seen: Seen, place: usize, rest: &[u8]) {
+fn end_at(rt: &impl Print, texts: &impl Print, seen: Seen, place: usize, rest: &[u8]) {
     let line = last_line(seen, place, rest);
     let text = line.bytes;
     let n = line.size;
-    send_last(&text[..n], seen, place, rest);
+    send_last(rt, texts, &text[..n], seen, place, rest);
 }
 
 // How a listing stands: whether it goes on, how many bytes at the start of the room are yet to be listed, their place in the file, and what
@@ -128,7 +144,15 @@ fn closed(seen: Seen) -> Window
 
 // One room of the file: it is filled, its cards are listed, and a card that it cuts short is kept. Where no card begins, and at the end of the
 // file, the last line is sent.
-fn list_some(room: &mut [u8], lines: &mut [u8], path: &[u8], fd: i32, window: Window) -> Window
+fn list_some<F: Read>(
+    rt: &impl Print,
+    texts: &impl Print,
+    room: &mut [u8],
+    lines: &mut [u8],
+    path: &[u8],
+    file: &mut F,
+    window: Window,
+) -> Window
     requires { (length room.old ≡ 65536) × (window.kept ≤ 65536) }
     ensures { result.kept ≤ 65536 }
 {
@@ -138,14 +162,13 @@ fn list_some(room: &mut [u8], lines: &mut [u8], path: &[u8], fd: i32, window: Wi
     if 9_000_000_000_000_000_000 < place {
         return closed(before);
     }
-    let x = fill(fd, &mut room[kept..]);
+    let x = fill(file, texts, path, &mut room[kept..]);
     let got = x.count;
     if !x.good {
-        says::failed(path);
         return closed(before);
     }
     let n = kept + got;
-    let y = list_cards(lines, &room[0..n], n < 65536, before);
+    let y = list_cards(rt, texts, lines, &room[0..n], n < 65536, before);
     let passed = y.passed;
     let taken = passed.taken;
     let seen = passed.seen;
@@ -155,7 +178,7 @@ fn list_some(room: &mut [u8], lines: &mut [u8], path: &[u8], fd: i32, window: Wi
     let next = place + taken;
     let left = n - taken;
     if n < 65536 || taken == 0 {
-        end_at(seen, next, &room[taken..n]);
+        end_at(rt, texts, seen, next, &room[taken..n]);
         return closed(seen);
     }
     move_down(room, taken, n);
@@ -169,7 +192,14 @@ fn list_some(room: &mut [u8], lines: &mut [u8], path: &[u8], fd: i32, window: Wi
 
 // All of an open file, room after room. A proved loop has to end, and nothing says that a file does, so it counts its turns down from a
 // number that no file uses up.
-fn list_all(room: &mut [u8], lines: &mut [u8], path: &[u8], fd: i32)
+fn list_all<F: Read>(
+    rt: &impl Print,
+    texts: &impl Print,
+    room: &mut [u8],
+    lines: &mut [u8],
+    path: &[u8],
+    file: &mut F,
+)
     requires { length room.old ≡ 65536 }
 {
     let mut window = Window {
@@ -180,20 +210,31 @@ fn list_all(room: &mut [u8], lines: &mut [u8], path: &[u8], fd: i32)
     };
     let mut turns = u64::MAX;
     while turns > 0 && window.open {
-        window = list_some(room, lines, path, fd, window);
+        window = list_some(rt, texts, room, lines, path, file, window);
         turns -= 1;
     }
 }
 
+// Room for a part of a file.
+fn part_room() -> [u8; 65536]
+    ensures { 65536 ≡ length result }
+{
+    [0; 65536]
+}
+
+// Room for the lines of one card.
+fn line_room() -> [u8; 4096]
+    ensures { 4096 ≡ length result }
+{
+    [0; 4096]
+}
+
 // The cards of the file at path.
-pub fn list(path: &[u8]) {
-    let mut room = io::large_buffer();
-    let mut lines = io::buffer();
-    let fd = os::open_read(path);
-    if fd < 0 {
-        says::failed(path);
-        return;
+pub fn list(rt: &(impl Files + Print), texts: &impl Print, path: &[u8]) {
+    let mut room = part_room();
+    let mut lines = line_room();
+    match disk::open(rt, path) {
+        Ok(mut file) => list_all(rt, texts, &mut room, &mut lines, path, &mut file),
+        Err(why) => says::failed(texts, path, &why),
     }
-    list_all(&mut room, &mut lines, path, fd);
-    libc::close(fd);
 }

@@ -1,5 +1,7 @@
 // The machine state as nine numbers in a row, and back: location, the loop box's counts A, B and C, card counter, problem number, reader,
 // mode and tracing. The machine file and the C face keep it so. And the state that a load begins with.
+#![tactic(auto)]
+
 ghost use Rattle.std.specs.Prelude.{◌≡◌};
 ghost use Rattle.rules.specs.Loads.{mode_of, fresh};
 ghost use Rattle.rules.specs.States.{state_in, numbers_of, no_state};

@@ -1,5 +1,7 @@
 // The paper's number for each answer, and the value that goes with it. In code these numbers stand here and nowhere else; the rules
 // define them.
+#![tactic(auto)]
+
 mod counts;
 
 ghost use Rattle.std.specs.Prelude.{◌≡◌};

@@ -1,4 +1,6 @@
 // What stands in a word: its sign, and the parts of an order. Each function takes any number.
+#![tactic(auto)]
+
 mod changes;
 mod targets;
 

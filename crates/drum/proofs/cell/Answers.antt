@@ -1,6 +1,5 @@
 -- `drum::cell`: past either run there is no cell; within both the mark decides. Assumes nothing.
 use Rattle.drum.proofs.Cells.{past_drum, past_marks, unmarked, marked}
-use borrow.Author.Rules.{rules}
 use Rattle.drum.proofs.cell.Goals as goal
 
 pub returns-then-drum-a : goal.returns-then-drum-a

@@ -1,7 +1,6 @@
 -- `drum::is_owned`: by the cell. Assumes nothing.
 use mathlib.Core.Path.{sym, ap, ◌∙◌}
 use Rattle.rules.specs.Drum.{is_owned}
-use borrow.Author.Rules.{rules}
 use Rattle.drum.proofs.is_owned.Goals as goal
 
 pub returns-in-Owned : goal.returns-in-Owned

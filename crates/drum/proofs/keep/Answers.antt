@@ -1,8 +1,6 @@
 -- `drum::keep`: past either run nothing is stored. Assumes nothing.
-use lib.ListN.{length}
 use borrow.Author.Tests.{lt-ltb, le-ltb}
 use Rattle.drum.proofs.Cells.{not-stored, stored}
-use borrow.Author.Rules.{rules}
 use Rattle.drum.proofs.keep.Goals as goal
 
 pub returns-then-drum-a : goal.returns-then-drum-a

@@ -1,7 +1,6 @@
 -- `drum::word`: what the cell shows. Assumes nothing.
 use mathlib.Core.Path.{sym, ap, ◌∙◌}
 use Rattle.rules.specs.Drum.{shown}
-use borrow.Author.Rules.{rules}
 use Rattle.drum.proofs.word.Goals as goal
 
 pub returns-in_default : goal.returns-in_default

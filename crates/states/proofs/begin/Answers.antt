@@ -1,5 +1,4 @@
 -- `states::begin`: field by field. Assumes nothing.
-use borrow.Author.Rules.{rules}
 use Rattle.states.proofs.begin.Goals as goal
 
 pub returns : goal.returns

@@ -1,8 +1,5 @@
 -- `words::address_in`: the digits above an address do not matter to it. Assumes nothing.
-use Prim.Native.Nat.{ℕ, ◌/◌, ◌%◌}
-use mathlib.Core.Path.{◌≡◌}
 use native.Mathlib.Omega.{arith}
-use borrow.Author.Rules.{rules}
 use Rattle.words.proofs.address_in.Goals as goal
 
 pub returns-in-OfA : goal.returns-in-OfA

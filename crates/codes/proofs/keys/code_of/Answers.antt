@@ -2,7 +2,6 @@
 use mathlib.Core.Path.{◌∙◌}
 use native.Mathlib.Omega.{arith}
 use Rattle.codes.proofs.Keyed.{code_short, code_move, code_long}
-use borrow.Author.Rules.{rules}
 use Rattle.codes.proofs.keys.code_of.Goals as goal
 
 pub returns-then-key-lt1000 : goal.returns-then-key-lt1000

@@ -1,5 +1,4 @@
 -- `codes::keys::slot_of` meets its contract: its tests are those of the definition. Assumes nothing.
-use borrow.Author.Rules.{rules}
 use borrow.Author.Tests.{lt-ltb, le-ltb}
 use Rattle.codes.specs.Keys.{slot_of}
 use Rattle.codes.proofs.keys.slot_of.Goals as goal

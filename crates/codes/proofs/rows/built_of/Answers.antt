@@ -1,6 +1,5 @@
 -- `codes::rows::built_of` meets its contract: the row with the number, or nothing behind the last. Assumes nothing.
 use native.Mathlib.Omega.{arith}
-use borrow.Author.Rules.{rules}
 use Rattle.codes.proofs.Found.{no_row}
 use Rattle.codes.proofs.rows.built_of.Goals as goal
 

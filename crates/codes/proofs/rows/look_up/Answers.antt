@@ -2,7 +2,6 @@
 use Prim.Native.Nat.{ℕ}
 use mathlib.Core.Path.{ap, ◌∙◌}
 use native.Mathlib.Omega.{arith}
-use borrow.Author.Rules.{rules}
 use Rattle.rules.specs.Codes.{codes}
 use Rattle.codes.specs.Rows.{row_built}
 use Rattle.codes.proofs.Found.{found, no_row}

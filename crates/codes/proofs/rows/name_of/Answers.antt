@@ -1,12 +1,11 @@
 -- `codes::rows::name_of` meets its contract: the name of the first row with a code, or the dash behind the last. Assumes nothing.
 use Prim.Native.Nat.{ℕ}
-use mathlib.Core.Path.{◌≡◌, refl, sym, ap, ◌∙◌}
+use mathlib.Core.Path.{◌≡◌, sym, ap, ◌∙◌}
 use native.Mathlib.Omega.{arith}
 use Rattle.rules.specs.Bytes.{bytes}
 use Rattle.rules.specs.Codes.{codes}
 use Rattle.codes.specs.Rows.{name_at}
 use Rattle.codes.proofs.Found.{named}
-use borrow.Author.Rules.{rules}
 use Rattle.codes.proofs.rows.name_of.Goals as goal
 
 -- behind the last row

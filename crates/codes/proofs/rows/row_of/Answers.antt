@@ -1,8 +1,7 @@
 -- `codes::rows::row_of` meets its contract: at each row what is left of the table has the answer of the whole. Assumes nothing.
 use mathlib.Core.Path.{sym, ◌∙◌}
-use Prim.Native.Nat.{ℕ, ◌-◌}
 use native.Mathlib.Omega.{arith}
-use Rattle.codes.proofs.Found.{Searched, search_begin, search_found, search_more, search_end}
+use Rattle.codes.proofs.Found.{search_begin, search_found, search_more, search_end}
 use Rattle.codes.proofs.rows.row_of.Goals as goal
 
 pub loop-i-init : goal.loop-i-init

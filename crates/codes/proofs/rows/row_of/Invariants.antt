@@ -1,8 +1,6 @@
 -- `codes::rows::row_of` meets its contract: at each row what is left of the table has the answer of the whole. Assumes nothing.
-use mathlib.Core.Path.{sym, ◌∙◌}
-use Prim.Native.Nat.{ℕ, ◌-◌}
-use native.Mathlib.Omega.{arith}
-use Rattle.codes.proofs.Found.{Searched, search_begin, search_found, search_more, search_end}
+use Prim.Native.Nat.{◌-◌}
+use Rattle.codes.proofs.Found.{Searched}
 use Rattle.codes.proofs.rows.row_of.Given as goal
 
 abbrev pub invariant-loop-i : goal.invariant-loop-i

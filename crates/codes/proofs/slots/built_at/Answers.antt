@@ -1,5 +1,4 @@
 -- `codes::slots::built_at` meets its contract: its test is that of the definition. Assumes nothing.
-use borrow.Author.Rules.{rules}
 use borrow.Author.Tests.{lt-ltb, le-ltb}
 use Rattle.codes.proofs.slots.built_at.Goals as goal
 

@@ -1,11 +1,8 @@
 -- `drum::blocks::all_owned`: before each turn the cells before b + i are marked; one that is not is enough to answer no. Assumes nothing.
-use Prim.Native.Nat.{ℕ, ◌+◌, ◌-◌, ◌≤◌}
-use mathlib.Core.Path.{◌≡◌, sym, ap, ◌∙◌}
-use mathlib.Core.Bool.{true}
+use Prim.Native.Nat.{◌+◌}
+use mathlib.Core.Path.{sym, ap, ◌∙◌}
 use native.Mathlib.Omega.{arith}
-use borrow.Author.Rules.{rules}
 use borrow.Author.Tests.{not-true, not-false}
-use lib.ListN.{length}
 use Rattle.rules.specs.Drum.{view}
 use Rattle.rules.specs.Codes.{owned_from}
 use Rattle.drum.proofs.Runs.{owned_none, owned_more, owned_fails, owned_within, block_past}

@@ -1,5 +1,4 @@
 -- `drum::blocks::first_words`: word by word. Assumes nothing.
-use borrow.Author.Rules.{rules}
 use Rattle.drum.proofs.blocks.first_words.Goals as goal
 
 pub returns : goal.returns

@@ -1,11 +1,8 @@
 -- `drum::blocks::word_within`: past the block and past the drum there is nothing to show. Assumes nothing.
-use Prim.Native.Nat.{ℕ, ◌+◌}
-use mathlib.Core.Path.{◌≡◌, ap, ◌∙◌}
+use Prim.Native.Nat.{◌+◌}
 use native.Mathlib.Omega.{arith}
-use lib.ListN.{length}
 use borrow.Author.Tests.{lt-ltb, le-ltb}
 use Rattle.drum.proofs.Runs.{nothing_past}
-use borrow.Author.Rules.{rules}
 use Rattle.drum.proofs.blocks.word_within.Goals as goal
 
 pub returns-then-n-i : goal.returns-then-n-i

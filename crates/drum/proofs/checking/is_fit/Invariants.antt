@@ -1,9 +1,6 @@
 -- `is_fit`: before each turn the cells before a are fit. Assumes nothing.
-use mathlib.Core.Path.{sym, ◌∙◌}
-use borrow.Author.Tests.{not-true, not-false}
-use borrow.Author.Rules.{rules}
 use Prim.Native.Nat.{◌-◌}
-use Rattle.drum.proofs.FitDrum.{short_drum, short_marks, Checking, checking_begins, checking_bad, checking_more, checking_end}
+use Rattle.drum.proofs.FitDrum.{Checking}
 use Rattle.drum.proofs.checking.is_fit.Given as goal
 
 abbrev pub invariant-loop-a : goal.invariant-loop-a

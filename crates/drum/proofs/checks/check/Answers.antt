@@ -1,6 +1,5 @@
 -- `drum::check`: class by class. Assumes nothing.
 use borrow.Author.Tests.{le-leb, lt-leb}
-use borrow.Author.Rules.{rules}
 use Rattle.drum.proofs.checks.check.Goals as goal
 
 -- two cells: the first before the second

@@ -1,15 +1,13 @@
 -- `drum::checks::check_block`: the block first, then its cells; from b to c there are c - b + 1. Assumes nothing.
 use Prim.Native.Nat.{ℕ, ◌+◌, ◌-◌, ◌≤◌}
-use mathlib.Core.Path.{◌≡◌, sym, ap, ◌∙◌}
-use mathlib.Core.Bool.{Bool, true, false}
+use mathlib.Core.Path.{◌≡◌, sym, ◌∙◌}
+use mathlib.Core.Bool.{true, false}
 use native.Mathlib.Omega.{arith}
 use borrow.Author.Tests.{not-true, not-false, leb-true}
 use lib.Dec.{leb}
-use Rattle.rules.specs.Codes.{block_fits, owned_from, unless}
+use Rattle.rules.specs.Codes.{block_fits, owned_from}
 use Rattle.rules.specs.Drum.{view}
-use Rattle.rules.specs.declared.Refusal.TheVariants.{Unmarked}
 use Rattle.rules.proofs.Tests.{both_first, both-second}
-use borrow.Author.Rules.{rules}
 use Rattle.drum.proofs.checks.check_block.Goals as goal
 use Rattle.drum.proofs.checks.check_block.Goals.{Else-not-block_fits}
 

@@ -1,6 +1,5 @@
 -- `drum::checks::check_compared`: the address before the mark. Assumes nothing.
 use borrow.Author.Tests.{le-leb, lt-leb}
-use borrow.Author.Rules.{rules}
 use Rattle.drum.proofs.checks.check_compared.Goals as goal
 
 pub returns-then-a-lt1 : goal.returns-then-a-lt1

@@ -1,10 +1,8 @@
 -- `drum::checks::check_move`: both blocks first, then the cells of the one that is moved. Assumes nothing.
-use Prim.Native.Nat.{ℕ}
 use mathlib.Core.Path.{◌≡◌, sym, ◌∙◌}
-use mathlib.Core.Bool.{Bool, true, false}
+use mathlib.Core.Bool.{true, false}
 use borrow.Author.Tests.{not-true, not-false}
 use Rattle.rules.specs.Codes.{block_lies}
-use borrow.Author.Rules.{rules}
 use Rattle.drum.proofs.checks.check_move.Goals as goal
 use Rattle.drum.proofs.checks.check_move.Goals.{Else-not-block_lies, Else-not-block_lies-2}
 

@@ -1,5 +1,4 @@
 -- `drum::checks::check_word`: by the mark. Assumes nothing.
-use borrow.Author.Rules.{rules}
 use Rattle.drum.proofs.checks.check_word.Goals as goal
 
 pub returns-then-is_owned : goal.returns-then-is_owned

@@ -1,6 +1,5 @@
 -- `octets::put_field` meets its contract: what fits is written, and else nothing. Assumes nothing.
 use mathlib.Core.Path.{sym, ◌∙◌}
-use borrow.Author.Rules.{rules}
 use borrow.Author.Tests.{leb-true}
 use Rattle.rules.specs.Cards.{digits}
 use Rattle.rules.proofs.Digits.{length_digits}

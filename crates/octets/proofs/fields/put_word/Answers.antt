@@ -1,6 +1,5 @@
 -- `octets::put_word` meets its contract: what fits is written, and else nothing. Assumes nothing.
 use mathlib.Core.Path.{sym, ◌∙◌}
-use borrow.Author.Rules.{rules}
 use borrow.Author.Tests.{leb-true}
 use Rattle.rules.specs.Cards.{word_bytes}
 use Rattle.rules.proofs.Fields.{length_word}

@@ -8,7 +8,6 @@ use native.Mathlib.Omega.{arith}
 use lib.ListN.{length, set, length-set}
 use Rattle.rules.specs.Cards.{digits}
 use Rattle.rules.proofs.Digits.{length_digits}
-use Rattle.octets.specs.Put.{splice}
 use Rattle.octets.proofs.Splices.{splice_none, splice_before}
 use Rattle.octets.proofs.fields.set_field.Goals as goal
 use Rattle.octets.proofs.fields.set_field.Invariants.{Passed}

@@ -1,15 +1,11 @@
 -- `octets::set_field` meets its contract. The loop's invariant: the last digits stand in the output, and all else is as it was.
 -- Assumes nothing.
 use mathlib.Core.List.{List}
-use mathlib.Core.Path.{◌≡◌, refl, sym, ap, ◌∙◌}
-use Prim.Native.Nat.{ℕ, suc, ◌+◌, ◌-◌, ◌/◌, ◌%◌, ◌^◌, ◌≤◌}
-use native.Mathlib.Nat.{pow-suc, div-div-eq-div-mul}
-use native.Mathlib.Omega.{arith}
-use lib.ListN.{length, set, length-set}
+use mathlib.Core.Path.{◌≡◌}
+use Prim.Native.Nat.{ℕ, ◌+◌, ◌-◌, ◌/◌, ◌^◌, ◌≤◌}
+use lib.ListN.{length}
 use Rattle.rules.specs.Cards.{digits}
-use Rattle.rules.proofs.Digits.{length_digits}
 use Rattle.octets.specs.Put.{splice}
-use Rattle.octets.proofs.Splices.{splice_none, splice_before}
 use Rattle.octets.proofs.fields.set_field.Given as goal
 
 -- the last k digits of x stand in the output from place e on, and y is what is left of x before them

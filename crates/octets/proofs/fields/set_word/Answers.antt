@@ -4,7 +4,6 @@ use mathlib.Core.Path.{ap, ap₂, ◌∙◌}
 use Prim.Native.Nat.{ℕ}
 use native.Mathlib.Numerals.{add-one}
 use native.Mathlib.Omega.{arith}
-use borrow.Author.Rules.{rules}
 use lib.ListN.{set}
 use Rattle.rules.specs.Cards.{digits, sign_byte, word_bytes}
 use Rattle.rules.proofs.Digits.{length_digits}

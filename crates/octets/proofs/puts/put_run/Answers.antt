@@ -1,6 +1,5 @@
 -- `octets::put_run` meets its contract: what fits is written, and else nothing. Assumes nothing.
 use mathlib.Core.Path.{refl, sym, ◌∙◌}
-use borrow.Author.Rules.{rules}
 use borrow.Author.Tests.{leb-true}
 use Rattle.octets.proofs.Joins.{put_done, put_left}
 use Rattle.octets.proofs.puts.put_run.Goals as goal

@@ -1,9 +1,8 @@
 -- `octets::set_run` meets its contract. The loop's invariant: the bytes passed stand in the output. Assumes nothing.
 use mathlib.Core.Path.{◌≡◌, refl}
-use Prim.Native.Nat.{◌-◌, ◌≤◌}
 use native.Mathlib.Omega.{arith}
 use lib.ListN.{length, length-set}
-use lib.Seq.{paste, paste-zero}
+use lib.Seq.{paste-zero}
 use Rattle.octets.proofs.Copies.{copy_more, copy_end}
 use Rattle.octets.proofs.puts.set_run.Goals as goal
 

@@ -1,10 +1,8 @@
 -- `octets::set_run` meets its contract. The loop's invariant: the bytes passed stand in the output. Assumes nothing.
-use mathlib.Core.Path.{◌≡◌, refl}
+use mathlib.Core.Path.{◌≡◌}
 use Prim.Native.Nat.{◌-◌, ◌≤◌}
-use native.Mathlib.Omega.{arith}
-use lib.ListN.{length, length-set}
-use lib.Seq.{paste, paste-zero}
-use Rattle.octets.proofs.Copies.{copy_more, copy_end}
+use lib.ListN.{length}
+use lib.Seq.{paste}
 use Rattle.octets.proofs.puts.set_run.Given as goal
 
 abbrev pub invariant-loop-i : goal.invariant-loop-i

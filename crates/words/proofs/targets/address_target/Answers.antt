@@ -1,6 +1,5 @@
 -- `words::targets::address_target`: by that address. Assumes nothing.
 use borrow.Author.Tests.{eq-eqb, ne_eqb}
-use borrow.Author.Rules.{rules}
 use Rattle.words.proofs.targets.address_target.Goals as goal
 
 pub returns-then-y-b : goal.returns-then-y-b

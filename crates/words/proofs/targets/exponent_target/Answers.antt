@@ -1,7 +1,5 @@
 -- `words::targets::exponent_target`: by the last two digits. Assumes nothing.
-use mathlib.Core.Path.{sym}
 use borrow.Author.Tests.{le-leb, lt-leb}
-use borrow.Author.Rules.{rules}
 use Rattle.words.proofs.targets.exponent_target.Goals as goal
 
 pub returns-then-b-x : goal.returns-then-b-x

@@ -1,5 +1,4 @@
 -- `words::targets::sign_target`: by the sign. Assumes nothing.
-use borrow.Author.Rules.{rules}
 use Rattle.words.proofs.targets.sign_target.Goals as goal
 
 pub returns-then-is_negative : goal.returns-then-is_negative
