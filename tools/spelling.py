@@ -10,7 +10,8 @@ import os
 import pathlib
 import re
 
-TOKEN = re.compile(r"""[^\s(){}\[\];,.:"|@λ⌜⌝`]+""")
+# a text stays as it is, and is no name
+TOKEN = re.compile(r'''"[^"\n]*"|[^\s(){}\[\];,.:"|@λ⌜⌝`]+''')
 HERE = pathlib.Path(__file__).resolve().parent
 
 

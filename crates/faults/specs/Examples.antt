@@ -24,4 +24,4 @@ pub record SentencesHold : Type 0 where
   pub number : Tells "1000-001+0000000000000T001000" "card 1, its card number: a digit is due at byte 4, and the byte there is a minus sign"
   pub last_cell : Tells "T00100050001997+0000000000+0000000000+0000000000+0000000000+0000000000000" "card 2, its location: 001 to 995 is due at byte 12, and the digits there are 997"
   pub first_order : Tells "T000007" "card 1, its first order: 001 to 999 is due at byte 1, and the digits there are 000"
-  pub none : Tells "10001001+0000000000000" "card 2, its kind: T is due at byte 22, and the file ends there with no first_order card"
+  pub none : Tells "10001001+0000000000000" "card 2, its kind: T is due at byte 22, and the file ends there with no first-order card"

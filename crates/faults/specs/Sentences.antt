@@ -127,7 +127,7 @@ abbrev pub long_sentence : List ℕ
 long_sentence = bytes "at most 65536 bytes are due in a deck, and the file is longer"
 
 unfoldable pub none_sentence : ℕ → ℕ → List ℕ
-none_sentence k p = head_of k Kind TheFirst p ++ bytes "the file ends there with no first_order card"
+none_sentence k p = head_of k Kind TheFirst p ++ bytes "the file ends there with no first-order card"
 
 -- each with a line end
 unfoldable pub card_line : ℕ → ℕ → Fault → ℕ → List ℕ → List ℕ

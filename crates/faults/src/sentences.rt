@@ -122,7 +122,7 @@ pub fn of_none(k: usize, place: usize) -> Line
     ensures { Says result (none_line k place) }
 {
     let line = head(k, Field::Kind, Due::TheFirst, place);
-    with(line, b"the file ends there with no first_order card\n")
+    with(line, b"the file ends there with no first-order card\n")
 }
 
 // What is left of a deck from a place on.

@@ -64,5 +64,5 @@ pub record ListingsHold : Type 0 where
   pub no_first_order : Lists "10001202+3000000050007" (
       "card  0001  at 202  problem 007" ∷
       "  202  +3000000050  MPY         000 000 050" ∷
-      "card 2, its kind: T is due at byte 22, and the file ends there with no first_order card" ∷ [])
-  pub none : Lists "" ("card 1, its kind: T is due at byte 0, and the file ends there with no first_order card" ∷ [])
+      "card 2, its kind: T is due at byte 22, and the file ends there with no first-order card" ∷ [])
+  pub none : Lists "" ("card 1, its kind: T is due at byte 0, and the file ends there with no first-order card" ∷ [])
