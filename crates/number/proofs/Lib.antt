@@ -1,5 +1,6 @@
 mod Operands
 mod Units
+mod Guesses
 mod Newton
 mod Arriving
 mod Aligning

@@ -6,6 +6,7 @@ mod orders;
 mod products;
 mod roots;
 mod rounding;
+mod steps;
 mod sums;
 
 ghost use Rattle.std.specs.Prelude.{◌≡◌};

@@ -1,41 +1,68 @@
-// Roots by the newsletter's own steps (section XI.3), from its own first guess: each goes from x to half the sum of x and of the number over x.
-// Three are enough, and then one correction (Steps.antt says how far off each may be).
-ghost use Rattle.std.specs.Prelude.{◌≡◌, true, ◌+◌, ◌*◌, ◌^◌, ◌≤◌, ◌<◌};
+// Roots, by multiplications: on many processors three of them take less time than a division. Only the answer is promised. Of a guess it is
+// proved that it fits, and not how near it is: tried for the digits and places of every number, it is the root or one less.
+ghost use Rattle.std.specs.Prelude.{◌≡◌, true, ◌+◌, ◌-◌, ◌*◌, ◌^◌, ◌≤◌, ◌<◌};
 ghost use Rattle.rules.specs.Words.{is_number};
 ghost use Rattle.rules.specs.Rounding.{single, settled, root_halves, root_of};
+ghost use Rattle.rules.specs.Rounded.{RootCut};
 ghost use Rattle.rules.specs.Arithmetic.{value_in, word_of};
-ghost use Rattle.number.specs.Steps.{Chosen, OneMore, NearestRoot};
 
 use crate::rounding::judged;
 use rules::Reckoned;
 
-// Three steps toward the root of n, which is the leading part of b moved up, from 1 + .22 times that part: the nearest number or one more. The
-// first stays a fraction, p over q, so that it takes no division; the second comes doubled, and by the scale in the unit of the third, which is
-// rounded up.
-fn stepped(b: u64, n: u64, scale: u64) -> u64
-    requires { (10 ^ 9 ≤ b) × (b < 10 ^ 10) × Chosen b n scale }
-    ensures { OneMore n result }
+// What b leaves of a, or 0 where b is the larger.
+fn left(a: u64, b: u64) -> u64
+    ensures { result ≡ a - b }
 {
-    let leading = b * 4_926 / 65_536;
-    let guess = 8_669 + b / 524_288;
-    let square = guess * guess;
-    let p = square + leading;
-    let q = 2 * guess;
-    let x = (p * p + leading * (q * q)) / (p * (guess * scale / 64) / 67_108_864);
-    (n / x + (x + 1)) / 2
+    if b <= a {
+        return a - b;
+    }
+    0
 }
 
-// The whole number nearest the root of n, from any guess: down while half a unit less is too much, and then up while half a unit more is too
-// little.
-fn nearest_root(n: u64, guess: u64) -> u64
-    requires { (0 < n) × (n < 10 ^ 16) × (1 ≤ guess) × (guess ≤ 2000000000) }
-    ensures { NearestRoot n result }
+// About 33,442,730 over the root of m, at most one part in sixty off: on each of two stretches a square comes so near.
+fn inverse(m: u64) -> u64
+    requires { (10 ^ 7 ≤ m) × (m < 10 ^ 8) }
+    ensures { result ≤ 12000 }
+{
+    if m < 32_000_000 {
+        let t = 139_863_600 - 4 * m;
+        return 5_871 + (t * t >> 41);
+    }
+    let t = 105_760_000 - m;
+    3_380 + (t * t >> 41)
+}
+
+// What that inverse y of m is multiplied by, so that three parts in a million are left: by a square once more.
+fn nearer(m: u64, y: u64) -> u64
+    requires { (m < 10 ^ 8) × (y ≤ 12000) }
+    ensures { result ≤ 1400000000 }
+{
+    let t = left(111_100_997, m * y * y >> 24);
+    588_230_948 + (t * t >> 24)
+}
+
+// A guess for the root of n, which is m times a numeral: c makes the inverse of m a root of n, a little too small, and d makes it the
+// inverse of twice that root, by which what the guess's square leaves of n is made up for.
+fn near_root(n: u64, m: u64, c: u64, d: u64) -> u64
+    requires { (n < 4 * 10 ^ 16) × (10 ^ 7 ≤ m) × (m < 10 ^ 8) × (c < 2 ^ 26) × (d < 2 ^ 18) }
+    ensures { result ≤ 4000000000 }
+{
+    let y = inverse(m);
+    let f = nearer(m, y);
+    let g = ((m * c >> 21) * y >> 14) * f >> 31;
+    g + ((left(n, g * g) >> 20) * ((y * f >> 20) * d >> 20) >> 26)
+}
+
+// The root of n, cut to a whole number, from any guess.
+fn root_below(n: u64, guess: u64) -> u64
+    requires { (n < 4 * 10 ^ 16) × (guess ≤ 4000000000) }
+    ensures { RootCut n result }
 {
     let mut r = guess;
-    while 4 * n < (2 * r - 1) * (2 * r - 1) {
+    while n < r * r {
         r = r - 1;
     }
-    while (2 * r + 1) * (2 * r + 1) < 4 * n {
+    while (r + 1) * (r + 1) <= n {
         r = r + 1;
     }
     r
@@ -43,10 +70,10 @@ fn nearest_root(n: u64, guess: u64) -> u64
 
 // The root of n times an even power of ten, where the root of n has eight digits and, rounded, no more.
 fn even_root(n: u64, guess: u64, j: u64) -> Reckoned
-    requires { (10 ^ 14 ≤ n) × (n ≤ 9999999900000000) × (1 ≤ guess) × (guess ≤ 2000000000) × (j ≤ 174) }
+    requires { (10 ^ 14 ≤ n) × (n ≤ 9999999900000000) × (guess ≤ 4000000000) × (j ≤ 174) }
     ensures { result ≡ word_of (settled single 0 (root_halves single (n * 10 ^ (j + j)))) }
 {
-    judged(0, nearest_root(n, guess), j)
+    judged(0, (root_below(4 * n, guess) + 1) / 2, j)
 }
 
 // The root of a number that is not below zero: its digits are moved up by seven or eight places, so that an even power is left.
@@ -57,8 +84,12 @@ pub(crate) fn root(b: u64) -> Reckoned
     if b == 0 {
         return Reckoned::Result(0);
     }
-    let odd = b % 2;
-    let n = b / 100 * 10_000_000 * (1 + 9 * odd);
-    let guess = stepped(b, n, 14_894_620 - odd * 10_184_528);
-    even_root(n, guess, (b % 100 + 250) / 2)
+    let m = b / 100;
+    let x = b % 100;
+    if x % 2 == 0 {
+        let guess = near_root(m * 40_000_000, m, 19_767_043, 259_091);
+        return even_root(m * 10_000_000, guess, (x + 250) / 2);
+    }
+    let guess = near_root(m * 400_000_000, m, 62_508_878, 81_931);
+    even_root(m * 100_000_000, guess, (x + 249) / 2)
 }

@@ -3,26 +3,20 @@
 use Prim.Native.Nat.{ℕ, ◌≤◌}
 use mathlib.Core.Path.{sym, ap, ◌∙◌}
 use native.Mathlib.Omega.{arith}
-use Rattle.rules.specs.Rounding.{single, placed}
 use Rattle.rules.specs.Arithmetic.{word_of}
-use Rattle.number.proofs.Sizes.{Halves, halves, root_least, root_most, root_is}
+use Rattle.number.proofs.Sizes.{root_least, root_most, root_is}
 use Rattle.number.proofs.Units.{eight_already}
 use Rattle.number.proofs.roots.even_root.Goals as goal
-use Rattle.number.proofs.roots.even_root.Goals.{After-nearest_root}
+use Rattle.number.proofs.roots.even_root.Goals.{After-root_below}
 
-found : (c : After-nearest_root) → Halves c.args.n c.nearest_root.result
-found c = halves c.args.n c.nearest_root.result c.nearest_root.ensures
-
-most : (c : After-nearest_root) → (found c).root ≤ 199999998
-most c = root_most c.args.n (found c).root c.requires.0 c.requires.1 (found c).cut
+most : (c : After-root_below) → c.root_below.result ≤ 199999998
+most c = root_most c.args.n c.root_below.result c.requires.0 c.requires.1 c.root_below.ensures
 
 pub returns : goal.returns
 returns c =
     let n : ℕ = c.args.n in
-    let j : ℕ = c.args.j in
-    let f : Halves n c.nearest_root.result = found (goal.at.returns c).After-nearest_root in
+    let h : ℕ = c.root_below.result in
     c.judged.ensures
     ∙ sym
     (ap word_of
-    (eight_already f.root 0 j _ (root_least n f.root c.requires.0 c.requires.1 f.cut) (omega (arith, most (goal.at.returns c).After-nearest_root)) (root_is n f.root c.requires.0 c.requires.1 f.cut j c.requires.4)
-    ∙ ap (λ (t : ℕ). placed single 0 t j) f.half))
+    (eight_already h 0 c.args.j _ (root_least n h c.requires.0 c.requires.1 c.root_below.ensures) (omega (arith, most (goal.at.returns c).After-root_below)) (root_is n h c.requires.0 c.requires.1 c.root_below.ensures c.args.j c.requires.3)))

@@ -1,7 +1,7 @@
--- `number::roots::nearest_root` meets its contract: from any guess down while the square of half a unit less is too large, and then up while
--- that of half a unit more is too small. Assumes nothing.
+-- `number::steps::nearest_root` meets its contract: from any guess down while the square of half a unit less is too large, and then up
+-- while that of half a unit more is too small. Assumes nothing.
 use Prim.Native.Nat.{◌+◌, ◌-◌, ◌*◌, ◌≤◌, ◌<◌}
-use Rattle.number.proofs.roots.nearest_root.Given as goal
+use Rattle.number.proofs.steps.nearest_root.Given as goal
 
 abbrev pub invariant-loop-r : goal.invariant-loop-r
 invariant-loop-r l = (1 ≤ l.r) × (l.r ≤ 2000000000)

@@ -1,10 +1,10 @@
--- `number::roots::nearest_root` meets its contract: from any guess down while the square of half a unit less is too large, and then up while
--- that of half a unit more is too small. Assumes nothing.
+-- `number::steps::nearest_root` meets its contract: from any guess down while the square of half a unit less is too large, and then up
+-- while that of half a unit more is too small. Assumes nothing.
 use Prim.Native.Nat.{ℕ, ◌+◌, ◌-◌, ◌*◌, ◌≤◌}
 use mathlib.Core.Path.{◌≡◌, ap}
 use native.Mathlib.Omega.{arith}
-use Rattle.number.proofs.roots.nearest_root.Goals as goal
-use Rattle.number.proofs.roots.nearest_root.Goals.{At-loop-r-2, In-loop-r, In-loop-r-2}
+use Rattle.number.proofs.steps.nearest_root.Goals as goal
+use Rattle.number.proofs.steps.nearest_root.Goals.{At-loop-r-2, In-loop-r, In-loop-r-2}
 
 -- the square of twice a number less 1
 less-half : (r : ℕ) → 1 ≤ r → (2 * r - 1) * (2 * r - 1) + 4 * r ≡ 4 * (r * r) + 1

@@ -1,4 +1,4 @@
--- `number::roots::stepped` meets its contract: it makes the three steps, nothing on the way is too large for 64 bits, and they arrive.
+-- `number::steps::stepped` meets its contract: it makes the three steps, nothing on the way is too large for 64 bits, and they arrive.
 -- Assumes nothing.
 use Prim.Native.Nat.{ℕ, ◌+◌, ◌*◌, ◌/◌, ◌^◌, ◌≤◌, ◌<◌}
 use mathlib.Core.Path.{◌≡◌, sym, subst}
@@ -6,8 +6,8 @@ use native.Mathlib.Nat.{mul-le-mul, div-le_self}
 use native.Mathlib.Omega.{arith}
 use Rattle.number.specs.Steps.{doubled, scaled, guess, above, beneath, second, OneMore}
 use Rattle.number.proofs.Arriving.{guess_most, scaled_most, above_most, n_some, second_few, thrice}
-use Rattle.number.proofs.roots.stepped.Goals as goal
-use Rattle.number.proofs.roots.stepped.Goals.{Start}
+use Rattle.number.proofs.steps.stepped.Goals as goal
+use Rattle.number.proofs.steps.stepped.Goals.{Start}
 
 module _ (c : Start) where
   abbrev b : ℕ
