@@ -5,7 +5,6 @@ use mathlib.Core.List.{List}
 use Rattle.rules.specs.Bytes.{bytes}
 use Rattle.says.proofs.Counted.{counts}
 use Rattle.disk.specs.Names.{with_part, behind_part, new_mark}
-use borrow.Author.Rules.{rules}
 use Rattle.disk.proofs.names.name_beside.Goals as goal
 
 pub returns : goal.returns

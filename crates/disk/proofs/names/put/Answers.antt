@@ -5,7 +5,6 @@ use mathlib.Core.List.{List, [], ◌∷◌}
 use native.Mathlib.Omega.{arith}
 use lib.ListN.{length, take, length-take}
 use Rattle.octets.proofs.Joins.{put_fits}
-use borrow.Author.Rules.{rules}
 use Rattle.disk.proofs.names.put.Goals as goal
 
 take_short : (n : ℕ) (l : List ℕ) → length (take n l) ≤ n

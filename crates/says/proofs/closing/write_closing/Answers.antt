@@ -4,7 +4,6 @@ use mathlib.Core.Bool.{Bool}
 use Prim.Native.Nat.{ℕ}
 use Rattle.rules.specs.Words.{pick}
 use Rattle.says.proofs.Answers.{closed_counts, line_told, stop_told}
-use borrow.Author.Rules.{rules}
 use Rattle.says.proofs.closing.write_closing.Goals as goal
 
 pub returns-in-NotRun : goal.returns-in-NotRun

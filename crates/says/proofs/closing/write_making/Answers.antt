@@ -1,6 +1,5 @@
 -- `says::write_making` meets its contract: a deck stands in the output already, and the line of a refused call is written. Assumes nothing.
 use Rattle.says.proofs.Answers.{closed_counts, refused_told, made_told}
-use borrow.Author.Rules.{rules}
 use Rattle.says.proofs.closing.write_making.Goals as goal
 
 pub returns-then-number-ne0 : goal.returns-then-number-ne0

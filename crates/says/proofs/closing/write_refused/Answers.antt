@@ -1,5 +1,4 @@
 -- `says::write_refused` meets its contract: the writer of a line says it. Assumes nothing.
-use borrow.Author.Rules.{rules}
 use Rattle.says.proofs.Answers.{line_closed, closed_counts}
 use Rattle.says.proofs.closing.write_refused.Goals as goal
 

@@ -11,7 +11,6 @@ use borrow.Author.Rules.{rules}
 use Rattle.list.specs.Listing.{with_kind, is_second, size_of, size_met}
 use Rattle.list.specs.declared.ends.Seen.{Seen}
 use Rattle.says.proofs.Answers.{line_within}
-use Rattle.shows.specs.Parts.{listed_upto}
 use Rattle.shows.specs.declared.cards.Passed.{Passed}
 use Rattle.shows.specs.declared.cards.Listed.{Listed}
 use Rattle.shows.proofs.Parts.{second_size, other_size_lem, ends_behind, ends_cut, ends_none, ends_short, goes_on}
