@@ -5,4 +5,4 @@ use Rattle.says.proofs.closing.write_refused.Goals as goal
 pub returns : goal.returns
 returns c =
     let w = line_closed _ _ _ _ c.write_line.ensures in
-    record { closed = w; prefix_len = closed_counts _ _ _ _ _ w }
+    record { closed = w; within = closed_counts _ _ _ _ _ w }

@@ -4,4 +4,4 @@ use Rattle.shows.proofs.cards.list_some.Goals as goal
 
 -- what is kept has room, since it is a part of the room
 pub returns : goal.returns
-returns g c = omega (arith, c.requires, c.fill-x.ensures.prefix_len)
+returns g c = omega (arith, c.requires, c.fill-x.ensures.within)
