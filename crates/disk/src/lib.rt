@@ -24,7 +24,7 @@ pub struct Filled {
 
 // A file of which nothing was read.
 fn unread() -> Filled
-    ensures count_value { result.count ≡ 0 }
+    ensures { result.count ≡ 0 }
 {
     Filled {
         good: false,
@@ -60,18 +60,15 @@ fn read_some<F: Read>(file: &mut F, texts: &impl Print, path: &[u8], rest: &mut 
 
 // Reads the open file at path until the room is full or the file ends. Where it cannot be read, that is said.
 pub fn fill<F: Read>(file: &mut F, texts: &impl Print, path: &[u8], room: &mut [u8]) -> Filled
-    ensures prefix_len { IsPrefixLen result.count room.new }
-    ensures count_value { result.good ≡ false → result.count ≡ 0 }
+    ensures within { IsPrefixLen result.count room.new }
+    ensures none_if_bad { result.good ≡ false → result.count ≡ 0 }
 {
     let mut at: usize = 0;
     while at < room.len() {
         let x = read_some(file, texts, path, &mut room[at..]);
         let n = x.count;
         if !x.good {
-            return Filled {
-                good: false,
-                count: 0,
-            };
+            return unread();
         }
         if n == 0 {
             break;
@@ -91,8 +88,8 @@ pub fn open<R: Files>(rt: &R, path: &[u8]) -> io::Result<R::File> {
 
 // The file at path, as far as the room goes. Where it cannot be read, that is said.
 pub fn read_whole<R: Files>(rt: &R, texts: &impl Print, room: &mut [u8], path: &[u8]) -> Filled
-    ensures prefix_len { IsPrefixLen result.count room.new }
-    ensures count_value { result.good ≡ false → result.count ≡ 0 }
+    ensures within { IsPrefixLen result.count room.new }
+    ensures none_if_bad { result.good ≡ false → result.count ≡ 0 }
 {
     match open(rt, path) {
         Ok(mut file) => fill(&mut file, texts, path, room),

@@ -126,7 +126,7 @@ pub fn load_as(
 // 1,000 cells of 0.
 pub fn empty_drum() -> [u64; 1000]
     ensures zeros { result ≡ zeros }
-    ensures cells { 1000 ≡ length result }
+    ensures size { 1000 ≡ length result }
 {
     [0u64; 1000]
 }
@@ -134,7 +134,7 @@ pub fn empty_drum() -> [u64; 1000]
 // 1,000 marks of 0.
 pub fn no_marks() -> [u8; 1000]
     ensures zeros { result ≡ zeros }
-    ensures cells { 1000 ≡ length result }
+    ensures size { 1000 ≡ length result }
 {
     [0u8; 1000]
 }

@@ -129,11 +129,16 @@ pub fn options_of(rt: &impl Env, texts: &impl Print, command: Command) -> Option
     at_end(options)
 }
 
+// The system's numbers of two errors: that an argument is none, and that the name of a file is too long.
+const INVALID_ARGUMENT: i32 = 22;
+
+const NAME_TOO_LONG: i32 = 36;
+
 // Why a word could not be read, as the system would tell it: there is no such word, or it is longer than the name of a file may be.
 fn why_unread(trouble: FillError) -> io::Error {
     match trouble {
-        FillError::NotPresent => io::Error::from_raw_os_error(22),
-        FillError::TooLong => io::Error::from_raw_os_error(36),
+        FillError::NotPresent => io::Error::from_raw_os_error(INVALID_ARGUMENT),
+        FillError::TooLong => io::Error::from_raw_os_error(NAME_TOO_LONG),
     }
 }
 

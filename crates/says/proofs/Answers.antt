@@ -5,7 +5,7 @@ use mathlib.Core.List.{List, [], ◌∷◌}
 use mathlib.Core.Bool.{Bool, true, false}
 use native.Mathlib.Omega.{arith}
 use borrow.Author.Tests.{le-leb}
-use lib.ListN.{length, take, drop, length-append, length-take}
+use lib.ListN.{length, take, length-append, length-take}
 use Rattle.rules.specs.Words.{pick}
 use Rattle.rules.specs.Numbers.{outcome_number, outcome_shown, bar_number, bar_place, making_number, making_written}
 use Rattle.rules.specs.Cards.{stop_card, refusal_line}

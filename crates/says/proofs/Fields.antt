@@ -7,7 +7,7 @@ use lib.Dec.{leb}
 use borrow.Author.Tests.{le-leb}
 use Rattle.rules.specs.Words.{both, is_word}
 use Rattle.rules.specs.Numbers.{stop_number, refusal_number, outcome_number, outcome_shown}
-use Rattle.rules.specs.Running.{RunCall, RunResult, begun, inputs, ran_as}
+use Rattle.rules.specs.Running.{RunResult, begun, inputs, ran_as}
 use Rattle.rules.specs.declared.Stop.{Stop}
 use Rattle.rules.specs.declared.Stop.TheVariants.{Unconditional, Conditional, Lost}
 use Rattle.rules.specs.declared.Refusal.{Refusal}

@@ -12,7 +12,7 @@ use rules::{Ending, Making, State};
 // The line of a call that was refused: its number, a space and its place, over the start of the output. It answers how many bytes that is.
 fn write_refused(out: &mut [u8], number: u64, place: u64) -> usize
     ensures closed { Closed true (refusal_line number place) out.old result out.new }
-    ensures prefix_len { IsPrefixLen result out.new }
+    ensures within { IsPrefixLen result out.new }
 {
     card::write_line(out, number, place as usize)
 }
@@ -20,7 +20,7 @@ fn write_refused(out: &mut [u8], number: u64, place: u64) -> usize
 // The Z card of a run, or the line of one that was refused at its entry, over the start of the output. It answers how many bytes that is.
 pub fn write_closing(out: &mut [u8], ending: Ending, state: State, count: u64) -> usize
     ensures closed { Closed (may_close ending state count) (closing ending state count) out.old result out.new }
-    ensures prefix_len { IsPrefixLen result out.new }
+    ensures within { IsPrefixLen result out.new }
 {
     match ending {
         Ending::NotRun(b) => {
@@ -45,7 +45,7 @@ pub fn write_closing(out: &mut [u8], ending: Ending, state: State, count: u64) -
 // output. It answers how many bytes that is.
 pub fn write_making(out: &mut [u8], making: Making) -> usize
     ensures closed { Closed true (make_line making out.old) out.old result out.new }
-    ensures prefix_len { IsPrefixLen result out.new }
+    ensures within { IsPrefixLen result out.new }
 {
     let number = stops::making_number(making);
     if number != 0 {

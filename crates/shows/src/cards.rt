@@ -52,8 +52,8 @@ fn list_cards(
     last: bool,
     before: Seen,
 ) -> Listed
-    ensures taken_in_bounds { result.passed.taken ≤ length part.now }
-    ensures passed_value { result.sent ≡ true → result.passed ≡ listed_upto (length part.now) part.now last before 0 }
+    ensures within { result.passed.taken ≤ length part.now }
+    ensures listed { result.sent ≡ true → result.passed ≡ listed_upto (length part.now) part.now last before 0 }
 {
     let mut at: usize = 0;
     let mut seen = before;

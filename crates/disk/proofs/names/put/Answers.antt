@@ -5,7 +5,6 @@ use mathlib.Core.List.{List, [], ◌∷◌}
 use native.Mathlib.Omega.{arith}
 use lib.ListN.{length, take, length-take}
 use Rattle.octets.proofs.Joins.{put_fits}
-use borrow.Author.Rules.{rules}
 use Rattle.disk.proofs.names.put.Goals as goal
 
 take_short : (n : ℕ) (l : List ℕ) → length (take n l) ≤ n
@@ -19,4 +18,4 @@ returns c =
     let left : ℕ = length a.out.now - a.at in
     let e : c.lesser.result ≡ length (take left a.part.now) = c.lesser.ensures ∙ sym (length-take left a.part.now) in
     let f : a.at + length (take left a.part.now) ≤ length a.out.now = omega (arith, c.requires, take_short left a.part.now) in
-    record { value = (ap (λ (k : ℕ). a.at + k) e, c.copy.ensures ∙ put_fits a.at (take left a.part.now) a.out.now refl f); upper_bound = omega (arith, e, f, c.copy.auto.out) }
+    record { put = (ap (λ (k : ℕ). a.at + k) e, c.copy.ensures ∙ put_fits a.at (take left a.part.now) a.out.now refl f); within = omega (arith, e, f, c.copy.auto.out) }

@@ -1,5 +1,4 @@
 -- `l1::decks::make_of` sends what the rules say of the call, all of it and nothing else. Assumes nothing.
-use borrow.Author.Rules.{rules}
 use Rattle.l1.proofs.MadeSheets.{made_told}
 use Rattle.l1.proofs.decks.make_of.Goals as goal
 

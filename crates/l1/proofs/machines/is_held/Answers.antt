@@ -1,7 +1,6 @@
 -- `l1::machines::is_held` meets its contract. Assumes nothing.
 use mathlib.Core.Path.{sym, ap, ap₂}
 use mathlib.Core.Bool.{Bool}
-use borrow.Author.Rules.{rules}
 use borrow.Author.Tests.{not-true, not-false}
 use Rattle.rules.specs.Words.{both}
 use Rattle.l1.proofs.machines.is_held.Goals as goal

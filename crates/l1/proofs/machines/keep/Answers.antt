@@ -1,5 +1,4 @@
 -- `l1::machines::keep`: what replaces the file is the machine file, whole. Assumes nothing.
-use borrow.Author.Rules.{rules}
 use Rattle.l1.proofs.Sendings.{file_whole}
 use Rattle.l1.proofs.machines.keep.Goals as goal
 

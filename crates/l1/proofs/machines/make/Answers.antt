@@ -4,7 +4,6 @@ use mathlib.Core.List.{List}
 use Prim.Native.Nat.{ℕ}
 use Rattle.rules.specs.declared.State.{State}
 use Rattle.file.specs.Files.{file_of}
-use borrow.Author.Rules.{rules}
 use Rattle.l1.proofs.Sendings.{file_whole}
 use Rattle.l1.proofs.machines.make.Goals as goal
 

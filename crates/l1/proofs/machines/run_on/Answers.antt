@@ -1,5 +1,4 @@
 -- `l1::machines::run_on`: the closing of a run can always be written. Assumes nothing.
-use borrow.Author.Rules.{rules}
 use borrow.Author.Tests.{not-false}
 use Rattle.l1.proofs.Rooms.{went_closes}
 use Rattle.l1.proofs.machines.run_on.Goals as goal

@@ -1,5 +1,5 @@
 -- `l1::sessions::go_on` meets its contract: what is left to do in empty rooms is the whole, and each room takes some of the budget. Assumes nothing.
-use Prim.Native.Nat.{ℕ, ◌+◌, ◌-◌, ◌≤◌}
+use Prim.Native.Nat.{◌-◌}
 use mathlib.Core.Path.{◌≡◌, refl, sym, ◌∙◌}
 use mathlib.Core.Bool.{true≢false}
 use native.Mathlib.Omega.{arith}
@@ -8,7 +8,6 @@ use borrow.Author.Rules.{rules}
 use borrow.Author.Tests.{not-true, not-false}
 use Rattle.rules.specs.Running.{RunCall}
 use Rattle.machine.specs.Lent.{call_of}
-use Rattle.l1.specs.Going.{gone_on}
 use Rattle.l1.proofs.Rooms.{count_fits, written-fits, room_full, run-over, refill_took}
 use Rattle.l1.proofs.sessions.go_on.Goals as goal
 use Rattle.l1.proofs.sessions.go_on.Goals.{After-run-x}

@@ -7,7 +7,6 @@ use Rattle.rules.specs.Loads.{loaded}
 use Rattle.rules.specs.declared.State.{State}
 use Rattle.machine.specs.Lent.{LoadRight}
 use Rattle.machine.specs.declared.Loaded.{Loaded}
-use borrow.Author.Rules.{rules}
 use Rattle.l1.proofs.sessions.load_as.Goals as goal
 
 asked : (drum marks deck : List ℕ) (s : State) {t u : Bool} {d k : List ℕ} {r : Loaded} → t ≡ u

@@ -2,7 +2,6 @@
 use mathlib.Core.Path.{ap₂}
 use lib.Dec.{eqb}
 use borrow.Author.Tests.{eq-eqb, ne_eqb}
-use borrow.Author.Rules.{rules}
 use Rattle.l1.proofs.sessions.may_refill.Goals as goal
 
 pub returns-then-count-eq0 : goal.returns-then-count-eq0

@@ -1,5 +1,4 @@
 -- `l1::sessions::play_on`: the closing of a run can always be written. Assumes nothing.
-use borrow.Author.Rules.{rules}
 use Rattle.l1.proofs.Rooms.{went_closes}
 use Rattle.l1.proofs.sessions.play_on.Goals as goal
 

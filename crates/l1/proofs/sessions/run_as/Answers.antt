@@ -7,7 +7,6 @@ use Rattle.rules.specs.declared.Switches.{Switches}
 use Rattle.machine.specs.Lent.{call_of}
 use Rattle.l1.specs.Going.{gone_on, WentOn}
 use Rattle.l1.specs.declared.sessions.Gone.{Gone}
-use borrow.Author.Rules.{rules}
 use Rattle.l1.proofs.sessions.run_as.Goals as goal
 
 asked : (drum marks out deck : List ℕ) (s : State) (budget : ℕ) {x y : Switches} {d k : List ℕ} {r : Gone} → x ≡ y

@@ -2,7 +2,6 @@
 use Rattle.faults.specs.Sentences.{deck_line}
 use Rattle.faults.proofs.Lengths.{deck_short, says_within, says_whole}
 use Rattle.says.proofs.Counted.{counts}
-use borrow.Author.Rules.{rules}
 use Rattle.l1.proofs.telling.explain.Goals as goal
 
 pub slice_bounds-text-end : goal.slice_bounds-text-end

@@ -1,5 +1,4 @@
 -- `l1::telling::tell` sends the whole closing. Assumes nothing.
-use native.Mathlib.Omega.{arith}
 use borrow.Author.Rules.{rules}
 use Rattle.l1.proofs.Sendings.{closing_sent}
 use Rattle.l1.proofs.telling.tell.Goals as goal

@@ -2,7 +2,6 @@
 use mathlib.Core.Path.{ap, ◌∙◌}
 use Rattle.calls.specs.Words.{with_next}
 use Rattle.calls.specs.declared.words.Asked.{Asked}
-use borrow.Author.Rules.{rules}
 use Rattle.l1.proofs.words.take.Goals as goal
 
 pub returns : goal.returns

@@ -1,10 +1,8 @@
 -- `l1::words::take_words` meets its contract. The loop's invariant: the words passed were taken, one after another. Assumes nothing.
-use Prim.Native.Nat.{◌-◌, ◌≤◌}
-use mathlib.Core.Path.{◌≡◌, sym, ◌∙◌}
+use mathlib.Core.Path.{sym, ◌∙◌}
 use mathlib.Core.Bool.{true≢false}
 use native.Mathlib.Omega.{arith}
-use lib.ListN.{length}
-use Rattle.calls.proofs.Taken.{Taking, take_none, take_next}
+use Rattle.calls.proofs.Taken.{take_none, take_next}
 use borrow.Author.Rules.{rules}
 use Rattle.l1.proofs.words.take_words.Goals as goal
 

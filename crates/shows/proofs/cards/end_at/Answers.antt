@@ -3,7 +3,6 @@ use Rattle.faults.proofs.Lengths.{says_within, says_whole}
 use Rattle.list.specs.Listing.{last_line}
 use Rattle.list.proofs.LastLines.{last_short}
 use Rattle.says.proofs.Counted.{counts}
-use borrow.Author.Rules.{rules}
 use Rattle.shows.proofs.cards.end_at.Goals as goal
 
 pub slice_bounds-text-end : goal.slice_bounds-text-end

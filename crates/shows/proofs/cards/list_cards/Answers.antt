@@ -11,7 +11,6 @@ use borrow.Author.Rules.{rules}
 use Rattle.list.specs.Listing.{with_kind, is_second, size_of, size_met}
 use Rattle.list.specs.declared.ends.Seen.{Seen}
 use Rattle.says.proofs.Answers.{line_within}
-use Rattle.shows.specs.Parts.{listed_upto}
 use Rattle.shows.specs.declared.cards.Passed.{Passed}
 use Rattle.shows.specs.declared.cards.Listed.{Listed}
 use Rattle.shows.proofs.Parts.{second_size, other_size_lem, ends_behind, ends_cut, ends_none, ends_short, goes_on}
@@ -48,7 +47,7 @@ loop-at-init g c = (length c.args.part.now, omega arith, omega arith, refl, refl
 pub returns-then-may_be_cut : goal.returns-then-may_be_cut
 returns-then-may_be_cut g c =
     let v = c.loop-at.invariant in
-    record { taken_in_bounds = within c.upto.ensures v.2; passed_value = told c.upto.ensures (λ e. ends_cut c.args.part.now c.args.last c.loop-at.seen c.loop-at.at v.0 v.4 (sym c.may_be_cut.ensures ∙ c.if-may_be_cut.true)) }
+    record { within = within c.upto.ensures v.2; listed = told c.upto.ensures (λ e. ends_cut c.args.part.now c.args.last c.loop-at.seen c.loop-at.at v.0 v.4 (sym c.may_be_cut.ensures ∙ c.if-may_be_cut.true)) }
 
 pub returns-then-is_second : goal.returns-then-is_second
 returns-then-is_second g c =
@@ -57,24 +56,24 @@ returns-then-is_second g c =
     let at = c.loop-at.at in
     let s = c.loop-at.seen in
     let is : is_second s (drop at part) ≡ true = ap (is_second s) (sym (rest-is part at)) ∙ sym c.is_second.ensures ∙ c.if-is_second.true in
-    record { taken_in_bounds = within c.upto-then-is_second.ensures v.2; passed_value = told c.upto-then-is_second.ensures (λ e. ends_none part c.args.last s at v.0 v.4 (second_size s (drop at part) is)) }
+    record { within = within c.upto-then-is_second.ensures v.2; listed = told c.upto-then-is_second.ensures (λ e. ends_none part c.args.last s at v.0 v.4 (second_size s (drop at part) is)) }
 
 pub returns-then-size-eq0 : goal.returns-then-size-eq0
 returns-then-size-eq0 g c =
     let v = c.loop-at.invariant in
-    record { taken_in_bounds = within c.upto-then-size-eq0.ensures v.2; passed_value = told c.upto-then-size-eq0.ensures (λ e. ends_none c.args.part.now c.args.last c.loop-at.seen c.loop-at.at v.0 v.4 (sym (size g (goal.at.returns-then-size-eq0 g c).After-write_lines-x) ∙ c.if-size-eq0.true)) }
+    record { within = within c.upto-then-size-eq0.ensures v.2; listed = told c.upto-then-size-eq0.ensures (λ e. ends_none c.args.part.now c.args.last c.loop-at.seen c.loop-at.at v.0 v.4 (sym (size g (goal.at.returns-then-size-eq0 g c).After-write_lines-x) ∙ c.if-size-eq0.true)) }
 
 pub returns-then-left-size : goal.returns-then-left-size
 returns-then-left-size g c =
     let v = c.loop-at.invariant in
-    record { taken_in_bounds = within c.upto-then-left-size.ensures v.2; passed_value = told c.upto-then-left-size.ensures (λ e. ends_short c.args.part.now c.args.last c.loop-at.seen c.loop-at.at v.0 v.4 (omega (arith, size g (goal.at.returns-then-left-size g c).After-write_lines-x, c.if-left-size.true))) }
+    record { within = within c.upto-then-left-size.ensures v.2; listed = told c.upto-then-left-size.ensures (λ e. ends_short c.args.part.now c.args.last c.loop-at.seen c.loop-at.at v.0 v.4 (omega (arith, size g (goal.at.returns-then-left-size g c).After-write_lines-x, c.if-left-size.true))) }
 
 pub send_first-requires : goal.send_first-requires
 send_first-requires g c = line_within _ _ _ _ c.write_lines-x.ensures.shown
 
 pub returns-then-not-send_first : goal.returns-then-not-send_first
 returns-then-not-send_first g c =
-    record { taken_in_bounds = within c.upto-then-not-send_first.ensures c.loop-at.invariant.2; passed_value = told c.upto-then-not-send_first.ensures (λ e. absurd (true≢false (sym e))) }
+    record { within = within c.upto-then-not-send_first.ensures c.loop-at.invariant.2; listed = told c.upto-then-not-send_first.ensures (λ e. absurd (true≢false (sym e))) }
 
 pub loop-at-preserved : goal.loop-at-preserved
 loop-at-preserved g c =
@@ -96,4 +95,4 @@ loop-at-preserved g c =
 pub returns : goal.returns
 returns g c =
     let v = c.loop-at.invariant in
-    record { taken_in_bounds = within c.upto-2.ensures v.2; passed_value = told c.upto-2.ensures (λ e. ends_behind c.args.part.now c.args.last c.loop-at.seen c.loop-at.at v.0 v.4 (omega arith)) }
+    record { within = within c.upto-2.ensures v.2; listed = told c.upto-2.ensures (λ e. ends_behind c.args.part.now c.args.last c.loop-at.seen c.loop-at.at v.0 v.4 (omega arith)) }

@@ -2,7 +2,6 @@
 use mathlib.Core.Path.{sym, ap}
 use mathlib.Core.Bool.{Bool}
 use Rattle.shows.specs.Parts.{may_be_cut}
-use borrow.Author.Rules.{rules}
 use Rattle.shows.proofs.cards.may_be_cut.Goals as goal
 
 pub returns : goal.returns

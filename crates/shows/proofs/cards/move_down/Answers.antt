@@ -8,7 +8,6 @@ use native.Mathlib.Omega.{arith}
 use lib.ListN.{length, get_or, drop, set, length-set, length-drop}
 use lib.Seq.{paste, paste-zero, drop-paste, get_or-drop}
 use Rattle.octets.proofs.Copies.{copy_more}
-use borrow.Author.Rules.{rules}
 use Rattle.shows.proofs.cards.move_down.Goals as goal
 
 -- what stands behind the bytes passed is the old
