@@ -126,7 +126,7 @@ fn remove(rt: &impl Files, path: &[u8]) {
 pub fn make(rt: &impl Files, texts: &impl Print, path: &[u8], bytes: &[u8]) -> bool {
     match create(rt, path) {
         Ok(file) => {
-            // whatever the rights are that the system takes from a new file
+            // its owner may read and write it, whatever the system takes away from a new file's rights
             file.set_permissions(Permissions::from_mode(0o600)).is_ok();
             match write_out(file, bytes) {
                 Ok(()) => true,
