@@ -7,9 +7,9 @@ ghost use Rattle.file.specs.Reads.{FileRead};
 ghost use Rattle.says.specs.Told.{may_close};
 ghost use Rattle.l1.specs.New.{new_file};
 
+use crate::call_words::{name_at, name_room, word_count};
 use crate::sessions::{Gone, cards_room, deck_room, empty_drum, load_as, no_marks, run_as};
 use crate::telling::{tell, tell_bar, tell_refused};
-use crate::words::{name_at, name_room, word_count};
 use calls::Options;
 use disk::{Filled, read_whole};
 use rules::{Bar, Ending, Loading, State};

@@ -2,19 +2,19 @@
 // libraries.
 #![tactic(auto)]
 
+mod call_words;
 mod decks;
 mod listings;
 mod machines;
 mod sessions;
 mod telling;
-mod words;
 
+use call_words::{name_at, name_room, options_of, word_at, word_count};
 use calls::{Command, Options};
 use std::env::Env;
 use std::io::Print;
 use std::random::RandomSource;
 use std::rt::Files;
-use words::{name_at, name_room, options_of, word_at, word_count};
 
 // The command, on the files that the words behind it name.
 fn obey(

@@ -4,7 +4,7 @@ use Prim.Native.Nat.{ℕ}
 use mathlib.Core.Path.{◌≡◌, subst}
 use Rattle.calls.specs.Words.{Read}
 use Rattle.calls.specs.declared.options.Options.{Options}
-use Rattle.l1.proofs.words.options_of.Goals as goal
+use Rattle.l1.proofs.call_words.options_of.Goals as goal
 
 read_as : {f g r : Options} {a b : ℕ} (count : ℕ) → f ≡ g → a ≡ b → Read f a count r → Read g b count r
 read_as {f} {g} {r} {a} {b} count p q t = subst (λ (x : ℕ). Read g x count r) q (subst (λ (x : Options). Read x a count r) p t)

@@ -3,7 +3,7 @@ use Prim.Native.Nat.{◌-◌, ◌≤◌}
 use mathlib.Core.Path.{◌≡◌}
 use lib.ListN.{length}
 use Rattle.calls.proofs.Taken.{Taking}
-use Rattle.l1.proofs.words.take_words.Given as goal
+use Rattle.l1.proofs.call_words.take_words.Given as goal
 
 abbrev pub invariant-loop-i : goal.invariant-loop-i
 invariant-loop-i g l = (131072 ≡ length l.room) × Taking l.initial.options l.from l.i l.options × (l.i - l.from ≤ l.count - l.from)

@@ -4,7 +4,7 @@ use mathlib.Core.Bool.{true≢false}
 use native.Mathlib.Omega.{arith}
 use Rattle.calls.proofs.Taken.{take_none, take_next}
 use borrow.Author.Rules.{rules}
-use Rattle.l1.proofs.words.take_words.Goals as goal
+use Rattle.l1.proofs.call_words.take_words.Goals as goal
 
 pub loop-i-init : goal.loop-i-init
 loop-i-init g c = (c.word_room-room.ensures, take_none c.args.form c.args.from, omega arith)
