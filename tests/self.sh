@@ -74,7 +74,7 @@ answers_with_none() { ! with_make '' tests/tool.sh answers; }
 
 fails 'rt ci, no fault' gate_with_none
 for fault in nothing fails-at-the-end fails-quietly not-ok a-crate-unproved a-crate-lost a-crate-too-many nothing-refused one-not-refused one-lost \
-    one-in-anothers-place one-bad; do
+    one-in-anothers-place one-bad one-for-a-name; do
     fails "rt ci, $fault" with_rt "$fault" gate
 done
 fails 'a wrong program is lost' with_edit_lost expected

@@ -117,8 +117,8 @@ pub fn load_as(
     options: Options,
 ) -> Loaded
     ensures { LoadRight
-        (loaded (record { drum = drum.entry.now; marks = marks.old; deck = deck.now; state = state; traced = is_traced options }))
-        drum.exit.now marks.new result }
+        (loaded (record { drum = drum.old; marks = marks.old; deck = deck.now; state = state; traced = is_traced options }))
+        drum.new marks.new result }
 {
     machine::load(drum, marks, deck, state, is_traced(options))
 }

@@ -9,8 +9,8 @@ use rules::{Bar, Deck, Loading, State};
 // Check 10 and the check of the deck come first, and a call that one of them refuses changes nothing.
 pub fn load(drum: &mut [u64], marks: &mut [u8], deck: &[u8], state: State, traced: bool) -> Loaded
     ensures { LoadRight
-        (loaded (record { drum = drum.entry.now; marks = marks.old; deck = deck.now; state = state; traced = traced }))
-        drum.exit.now marks.new result }
+        (loaded (record { drum = drum.old; marks = marks.old; deck = deck.now; state = state; traced = traced }))
+        drum.new marks.new result }
 {
     if !drum::is_fit(drum, marks) {
         return Loaded {

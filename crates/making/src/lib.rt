@@ -27,7 +27,7 @@ fn numbers_fit(order: u64, problem: u64) -> bool
 // call that one of them refuses writes nothing.
 pub fn make(drum: &[u64], marks: &[u8], out: &mut [u8], order: u64, problem: u64) -> Making
     ensures { MakeRight
-        (made (record { drum = drum.entry.now; marks = marks.now; out = out.old; order = order; problem = problem }))
+        (made (record { drum = drum.now; marks = marks.now; out = out.old; order = order; problem = problem }))
         out.new result }
 {
     if !drum::is_fit(drum, marks) {
