@@ -108,9 +108,9 @@ module _ (i : Inputs) (carry : i.requests.sums_carry ≡ true) (u : Machine) (k 
   abbrev judged_sum : Answer
   judged_sum = allowed i u (Change k x) a b c (checked Changed u.cells a b c)
 
-  sum-zero : b ≡ 0 → judged_sum ≡ undone BadAddress u
+  sum_zero : b ≡ 0 → judged_sum ≡ undone BadAddress u
   unfolding checked
-  sum-zero e = rw e
+  sum_zero e = rw e
 
   sum_foreign : 1 ≤ b → cell_at u.cells b ≡ Foreign → judged_sum ≡ undone Unmarked u
   unfolding checked
@@ -127,7 +127,7 @@ module _ (i : Inputs) (carry : i.requests.sums_carry ≡ true) (u : Machine) (k 
       → (z : Answer) → z ≡ judged_sum → Sums z u b Held sum
   sums Held sum small p q z e =
       record {
-        zero = λ f. e ∙ sum-zero f;
+        zero = λ f. e ∙ sum_zero f;
         foreign = λ l f. e ∙ sum_foreign l f;
         past = λ l y f g. e ∙ sum_owned l y f ∙ ap (changed u b) (p y g);
         held = λ l y f g.

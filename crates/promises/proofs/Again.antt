@@ -18,7 +18,7 @@ use Rattle.promises.specs.Again.{following, again, MayGoOnLater, MetAgain, SameO
 use Rattle.promises.proofs.Undone.{same_order_again}
 use Rattle.promises.proofs.Counting.{count_is_steps}
 use Rattle.rules.proofs.Entered.{Entered, course, ran_course}
-use Rattle.promises.proofs.Entry.{entered, left-view, again_entered}
+use Rattle.promises.proofs.Entry.{entered, left_view, again_entered}
 
 same_outcome : {o p : Outcome} → Ran o ≡ Ran p → o ≡ p
 same_outcome e = cc
@@ -49,12 +49,12 @@ unsent m u h =
     }
 
 -- the machine with which the run following c begins is the one that c left, with nothing sent
-pub begun-behind : (c : RunCall) → Entered c → (out : List ℕ) (budget : ℕ) (switches : Switches)
+pub begun_behind : (c : RunCall) → Entered c → (out : List ℕ) (budget : ℕ) (switches : Switches)
     → begun (again c out budget switches) ≡ record { cells = (course c).machine.cells; sent = []; state = (course c).machine.state }
 unfolding ran_as
-begun-behind c h out budget switches =
+begun_behind c h out budget switches =
     ap (λ (x : RunResult). begun (following c x out budget switches)) (ran_course c h)
-    ∙ ap (λ (v : List Cell). record { cells = v; sent = []; state = (course c).machine.state }) (left-view c h)
+    ∙ ap (λ (v : List Cell). record { cells = v; sent = []; state = (course c).machine.state }) (left_view c h)
 
 pub same_order_next_run : SameOrderNextRun
 unfolding ran_as
@@ -77,7 +77,7 @@ same_order_next_run c o e t out budget switches = by_course (course c) refl (cou
           counted =
               ap (λ (y : RunResult). y.count) (ran_course c h) ∙ ap (λ (y : Course). y.count) q ∙ n ∙ ap (λ (y : Outcome). k + completed y) (sym z);
           met =
-              subst (AsBefore u) (sym (begun-behind c h out budget switches))
+              subst (AsBefore u) (sym (begun_behind c h out budget switches))
               (unsent u (course c).machine
               (subst (AsBefore u) (sym m ∙ sym (ap (λ (y : Course). y.machine) q))
               (same_order_again (inputs c) u (ap tries_again (sym g ∙ sym z) ∙ t))));

@@ -28,18 +28,18 @@ use Rattle.rules.proofs.Entered.{Entered}
 
 -- ---- 22
 
-bad_deck-not_full : (f : DeckFault) → is_full (NotRun (BadDeck f)) ≡ false
-bad_deck-not_full TooLong = refl
-bad_deck-not_full (At p UnknownKind b) = refl
-bad_deck-not_full (At p SecondFirst b) = refl
-bad_deck-not_full (At p CutShort b) = refl
-bad_deck-not_full (At p BadByte b) = refl
-bad_deck-not_full (At p BadPlace b) = refl
-bad_deck-not_full (NoFirst p) = refl
+bad_deck_not_full : (f : DeckFault) → is_full (NotRun (BadDeck f)) ≡ false
+bad_deck_not_full TooLong = refl
+bad_deck_not_full (At p UnknownKind b) = refl
+bad_deck_not_full (At p SecondFirst b) = refl
+bad_deck_not_full (At p CutShort b) = refl
+bad_deck_not_full (At p BadByte b) = refl
+bad_deck_not_full (At p BadPlace b) = refl
+bad_deck_not_full (NoFirst p) = refl
 
 bar_not_full : (b : Bar) → is_full (NotRun b) ≡ false
 bar_not_full BadDrum = refl
-bar_not_full (BadDeck f) = bad_deck-not_full f
+bar_not_full (BadDeck f) = bad_deck_not_full f
 bar_not_full BadState = refl
 
 pub full_is : (e : Ending) → is_full e ≡ true → e ≡ Ran (Undone NoRoom)
@@ -78,10 +78,10 @@ abbrev pub Barred : RunCall → Type 0
 Barred c = (b : Bar) × ((out : List ℕ) → ran (within c out) ≡ not_run (within c out) b)
 
 module _ (c : RunCall) (fits : drum_fits (length c.drum) c.marks (view c.drum c.marks) ≡ true) where
-  judged-deck : (k : Deck) → deck_of c.deck ≡ k → Entered c ⊎ Barred c
+  judged_deck : (k : Deck) → deck_of c.deck ≡ k → Entered c ⊎ Barred c
   unfolding ran_by ran_on
-  judged-deck (Faulty f) q = inr (BadDeck f, λ out. rw (fits, q))
-  judged-deck (Good first order problem) q = by_state (state_fits (view c.drum c.marks) c.deck first c.state c.budget) refl
+  judged_deck (Faulty f) q = inr (BadDeck f, λ out. rw (fits, q))
+  judged_deck (Good first order problem) q = by_state (state_fits (view c.drum c.marks) c.deck first c.state c.budget) refl
     where
       by_state : (t : Bool) → state_fits (view c.drum c.marks) c.deck first c.state c.budget ≡ t → Entered c ⊎ Barred c
       by_state true f = inl (record { drum_fits_lem = fits; first = first; order = order; problem = problem; deck_good = q; state_fits_lem = f })
@@ -92,11 +92,11 @@ unfolding ran_by
 either_way c = by_fit (drum_fits (length c.drum) c.marks (view c.drum c.marks)) refl
   where
     by_fit : (t : Bool) → drum_fits (length c.drum) c.marks (view c.drum c.marks) ≡ t → Entered c ⊎ Barred c
-    by_fit true f = judged-deck c f (deck_of c.deck) refl
+    by_fit true f = judged_deck c f (deck_of c.deck) refl
     by_fit false f = inr (BadDrum, λ out. rw f)
 
-pub barred-not_full : (c : RunCall) → Barred c → is_full (ran c).ending ≡ false
-barred-not_full c h = ap (λ (x : RunResult). is_full x.ending) (h.1 c.out) ∙ bar_not_full h.0
+pub barred_not_full : (c : RunCall) → Barred c → is_full (ran c).ending ≡ false
+barred_not_full c h = ap (λ (x : RunResult). is_full x.ending) (h.1 c.out) ∙ bar_not_full h.0
 
 -- what holds of a call that is refused at its entry or passes it
 pub of_call : (c : RunCall) (P : Type 0) → (Entered c → P) → (Barred c → P) → P

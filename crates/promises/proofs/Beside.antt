@@ -27,7 +27,7 @@ use Rattle.promises.specs.Again.{again}
 use Rattle.promises.specs.Rooms.{is_full, Came, cards_of, came_to, joined, room_after_room}
 use Rattle.rules.proofs.Entered.{Entered, course, ran_course, begun_sound, left_sound}
 use Rattle.promises.proofs.Entry.{again_entered}
-use Rattle.promises.proofs.Again.{ran_outcome, begun-behind}
+use Rattle.promises.proofs.Again.{ran_outcome, begun_behind}
 use Rattle.promises.proofs.Barred.{full_is, same_outcome, not_full}
 
 -- ---- lists
@@ -127,7 +127,7 @@ module _ (c : RunCall) (h : Entered c) (g : is_full (ran c).ending ≡ true) (ou
     begun_next : sent_before p (course c).machine ≡ sent_before q (begun next)
     begun_next =
         ap (λ (s : List ℕ). record { cells = (course c).machine.cells; sent = s; state = (course c).machine.state }) (sym (append-nil q))
-        ∙ ap (sent_before q) (sym (begun-behind c h out (c.budget - (ran c).count) c.switches))
+        ∙ ap (sent_before q) (sym (begun_behind c h out (c.budget - (ran c).count) c.switches))
 
     beside_next : beside c h p n r ≡ beside next next_entered q k r
     beside_next =

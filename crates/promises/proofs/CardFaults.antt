@@ -111,12 +111,12 @@ module _ (deck : List ℕ) (p : ℕ) (here : p < length deck) where
 
         -- in range it is a first-order card or a data card, of its bytes
         module _ (range : InRange deck p) where
-          fits-left : cells_fit (number_in (drop p deck) (field_of (byte_at deck p)) 3) (cells_of (byte_at deck p)) ≡ true
-          fits-left = rw field_left (fit _ _ range)
+          fits_left : cells_fit (number_in (drop p deck) (field_of (byte_at deck p)) 3) (cells_of (byte_at deck p)) ≡ true
+          fits_left = rw field_left (fit _ _ range)
 
           pub first_due : eqb (byte_at deck p) first_kind ≡ true → (order : ℕ) × (problem : ℕ) × (card_at deck p ≡ First order problem)
-          first_due e = (_, _, read_first card_known left none_left (omega arith) fits-left e)
+          first_due e = (_, _, read_first card_known left none_left (omega arith) fits_left e)
 
           pub data_due : eqb (byte_at deck p) first_kind ≡ false
               → (number : ℕ) × (location : ℕ) × (words : ℕ) × (problem : ℕ) × (card_at deck p ≡ Data number location words problem (bytes_of (byte_at deck p)))
-          data_due e = (_, _, _, _, read_data card_known left none_left (omega arith) fits-left e)
+          data_due e = (_, _, _, _, read_data card_known left none_left (omega arith) fits_left e)

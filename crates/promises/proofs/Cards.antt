@@ -40,8 +40,8 @@ shown d (suc n) i h = by_place (shown d n i) (ltb i n) refl
         let q : i ≡ n = omega (arith, ltb-false i n e) in
         ap (λ (k : ℕ). word_in d (word_place k)) q ∙ sym (get_or_at (words_of d n) w [] 0 i (length_of d n ∙ sym q))
 
-pub data_written-again : DataWrittenAgain
-data_written-again d number location n problem size e =
+pub data_written_again : DataWrittenAgain
+data_written_again d number location n problem size e =
     let l = length_of d n in
     data_read-written d number location problem size (words_of d n)
     (subst (λ (k : ℕ). DataRead d number location k problem size) (sym l) (data_read d number location n problem size e))
@@ -51,5 +51,5 @@ pub first_read_back : FirstReadBack
 first_read_back order problem rest from upto posed =
     first-is _ order problem (first_written-read order problem rest from (omega arith) (omega arith))
 
-pub first_written-again : FirstWrittenAgain
-first_written-again d order problem e = first_read-written d order problem (first_read d order problem e)
+pub first_written_again : FirstWrittenAgain
+first_written_again d order problem e = first_read-written d order problem (first_read d order problem e)

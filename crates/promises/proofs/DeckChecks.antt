@@ -39,10 +39,10 @@ module _ (deck : List ℕ) (p : ℕ) where
       (ap (λ (k : ℕ). eqb k first_kind) (kind_left deck p) ∙ no_first_more t s l (eqb (byte_at deck p) first_kind) refl)
   met_other t (Faulty f) s l = refl
 
-  met-second : (sofar : Deck) → Stands deck 1 sofar → byte_at deck p ≡ first_kind → met sofar (piece p (drop p deck)) ≡ Bad SecondFirst 0
-  met-second (Good behind order problem) s e =
+  met_second : (sofar : Deck) → Stands deck 1 sofar → byte_at deck p ≡ first_kind → met sofar (piece p (drop p deck)) ≡ Bad SecondFirst 0
+  met_second (Good behind order problem) s e =
       ap (λ (b : Bool). pick b (Bad SecondFirst 0) (card_at deck p)) (eq-eqb (get_or (drop p deck) 0 0) first_kind (kind_left deck p ∙ e))
-  met-second (Faulty f) s e = absurd (let z : ⊥ = omega arith in z)
+  met_second (Faulty f) s e = absurd (let z : ⊥ = omega arith in z)
 
 -- ---- the cards before a place
 
@@ -60,7 +60,7 @@ next deck p t h l w = by_kind (eqb (byte_at deck p) first_kind) refl
 
     by_kind : (b : Bool) → eqb (byte_at deck p) first_kind ≡ b → Walked deck (p + bytes_of (byte_at deck p)) (t + firsts deck p)
     by_kind true e =
-        let c = first_due deck p (omega arith) h.known h.whole h.due h.in-range e in
+        let c = first_due deck p (omega arith) h.known h.whole h.due h.in_range e in
         let one : firsts deck p ≡ 1 = ap (λ (b : Bool). pick b 1 0) e in
         record {
           sofar = Good (p + first_size) c.0 c.1;
@@ -72,7 +72,7 @@ next deck p t h l w = by_kind (eqb (byte_at deck p) first_kind) refl
           stands = omega arith;
         }
     by_kind false e =
-        let c = data_due deck p (omega arith) h.known h.whole h.due h.in-range e in
+        let c = data_due deck p (omega arith) h.known h.whole h.due h.in_range e in
         let none : firsts deck p ≡ 0 = ap (λ (b : Bool). pick b 1 0) e in
         record {
           sofar = w.sofar;
@@ -116,11 +116,11 @@ pub told_long : {deck : List ℕ} {place : ℕ} → TooLongAt deck place → dec
 unfolding deck_of
 told_long {deck} h = simp (lt-ltb 65536 (length deck) h.long)
 
-pub told-second : {deck : List ℕ} {place : ℕ} → SecondFirstAt deck place → deck_of deck ≡ Faulty (At place SecondFirst place)
-told-second {deck} {place} h =
+pub told_second : {deck : List ℕ} {place : ℕ} → SecondFirstAt deck place → deck_of deck ≡ Faulty (At place SecondFirst place)
+told_second {deck} {place} h =
     let w = walked h.short h.before in
     w.same
-    ∙ from_bad deck place w.sofar (omega arith) SecondFirst 0 (met-second deck place w.sofar w.stands h.again)
+    ∙ from_bad deck place w.sofar (omega arith) SecondFirst 0 (met_second deck place w.sofar w.stands h.again)
     ∙ ap (λ (b : ℕ). Faulty (At place SecondFirst b)) (add-zero place)
 
 -- of a card that is looked at, its fault and the byte
@@ -136,14 +136,14 @@ module _ {deck : List ℕ} {place : ℕ} where
   pub told_unknown : UnknownKindAt deck place → deck_of deck ≡ Faulty (At place UnknownKind place)
   told_unknown h = told_bad h.met UnknownKind 0 (card_unknown deck place h.met.here h.unknown) (omega arith)
 
-  pub told-cut : CutShortAt deck place → deck_of deck ≡ Faulty (At place CutShort place)
-  told-cut h = told_bad h.met CutShort 0 (card_cut deck place h.met.here h.known h.cut) (omega arith)
+  pub told_cut : CutShortAt deck place → deck_of deck ≡ Faulty (At place CutShort place)
+  told_cut h = told_bad h.met CutShort 0 (card_cut deck place h.met.here h.known h.cut) (omega arith)
 
   pub told_byte : (h : BadByteAt deck place) → deck_of deck ≡ Faulty (At h.p BadByte place)
   told_byte h =
       told_bad h.met BadByte h.o
       (card_byte deck h.p h.met.here h.known h.whole h.o h.behind_kind h.within h.due h.not_due) h.there
 
-  pub told-place : (h : OutOfRangeAt deck place) → deck_of deck ≡ Faulty (At h.p BadPlace place)
-  told-place h =
+  pub told_place : (h : OutOfRangeAt deck place) → deck_of deck ≡ Faulty (At h.p BadPlace place)
+  told_place h =
       told_bad h.met BadPlace (field_of (byte_at deck h.p)) (card_place deck h.p h.met.here h.known h.whole h.due h.out) h.there

@@ -17,7 +17,7 @@ use Rattle.rules.specs.declared.Deck.{Deck}
 use Rattle.rules.specs.declared.Deck.TheVariants.{Good, Faulty}
 use Rattle.promises.specs.DeckFaults.{byte_at, UnknownKindAt, CutShortAt, BadByteAt, OutOfRangeAt, SecondFirstAt, NoFirstIn, TooLongAt, GoodDeck, Tells, NumbersSay, CallsTell, number_before, InThatCard, RefusedAsBefore}
 use Rattle.promises.proofs.CardFaults.{field_within}
-use Rattle.promises.proofs.DeckChecks.{told_unknown, told-cut, told_byte, told-place, told-second, told_none, told_long, told_good}
+use Rattle.promises.proofs.DeckChecks.{told_unknown, told_cut, told_byte, told_place, told_second, told_none, told_long, told_good}
 use Rattle.promises.proofs.DeckFound.{Says, says_good, says_long, says_unknown, says_cut, says_byte, says_place, says_second, says_none, found}
 
 -- ---- what is right is told
@@ -25,27 +25,27 @@ use Rattle.promises.proofs.DeckFound.{Says, says_good, says_long, says_unknown, 
 -- the number and the place, in the card where it was told before
 record Told (deck : List ℕ) (number place : ℕ) : Type 0 where
   tells : Tells deck number place
-  in-card : (f : DeckFault) → deck_of deck ≡ Faulty f → InThatCard deck f
+  in_card : (f : DeckFault) → deck_of deck ≡ Faulty f → InThatCard deck f
 
 fault_told : {deck : List ℕ} (f : DeckFault) → deck_of deck ≡ Faulty f → InThatCard deck f → Told deck (deck_number f) (deck_place f)
 fault_told {deck} f e c =
     record {
       tells = (ap check_number e, ap check_place e);
-      in-card = λ g q. let s : f ≡ g = cc in subst (InThatCard deck) s c;
+      in_card = λ g q. let s : f ≡ g = cc in subst (InThatCard deck) s c;
     }
 
 told : {deck : List ℕ} {number place : ℕ} → Says deck number place → Told deck number place
 told (says_good h) =
     let e = (told_good h).3 in
-    record { tells = (ap check_number e, ap check_place e); in-card = λ f q. let z : ◌≡◌ {A = ℕ} 0 1 = cc in absurd (omega arith) }
+    record { tells = (ap check_number e, ap check_place e); in_card = λ f q. let z : ◌≡◌ {A = ℕ} 0 1 = cc in absurd (omega arith) }
 told {deck} (says_long h) = subst (Told deck 11) (sym h.there) (fault_told TooLong (told_long h) refl)
 told (says_unknown h) = fault_told (At _ UnknownKind _) (told_unknown h) (inl refl)
-told (says_cut h) = fault_told (At _ CutShort _) (told-cut h) (inl refl)
+told (says_cut h) = fault_told (At _ CutShort _) (told_cut h) (inl refl)
 told (says_byte h) = fault_told (At _ BadByte _) (told_byte h) (inr (omega arith, omega arith))
 told {deck} (says_place h) =
     let w = field_within (byte_at deck h.p) h.known in
-    fault_told (At _ BadPlace _) (told-place h) (inr (omega arith, omega arith))
-told (says_second h) = fault_told (At _ SecondFirst _) (told-second h) (inl refl)
+    fault_told (At _ BadPlace _) (told_place h) (inr (omega arith, omega arith))
+told (says_second h) = fault_told (At _ SecondFirst _) (told_second h) (inl refl)
 told (says_none h) = fault_told (NoFirst _) (told_none h) refl
 
 -- ---- what is told is right
@@ -142,5 +142,5 @@ pub refused_as_before : RefusedAsBefore
 refused_as_before =
     record {
       same_decks = λ deck. same_deck (deck_of deck);
-      same_card = λ deck f e. (told (found deck).2).in-card f e;
+      same_card = λ deck f e. (told (found deck).2).in_card f e;
     }

@@ -81,7 +81,7 @@ module _ {deck : List ℕ} {p : ℕ} (met : Met deck p) where
             inr (_, _, says_byte h)
 
     by_range : DueUpto deck p size → InRange deck p ⊎ (InRange deck p → ⊥) → AsDue deck p ⊎ Found deck
-    by_range due (inl range) = inl (record { known = known; whole = whole; due = due; in-range = range })
+    by_range due (inl range) = inl (record { known = known; whole = whole; due = due; in_range = range })
     by_range due (inr out) =
         inr (_, _, says_place (record { p = p; met = met; known = known; whole = whole; due = due; out = out; there = refl }))
 
@@ -113,33 +113,33 @@ second_is deck p t l g = by_test (eqb (byte_at deck p) first_kind) refl
     by_test false e = let none : firsts deck p ≡ 0 = ap (λ (b : Bool). pick b 1 0) e in let z : ⊥ = omega arith in absurd z
 
 module _ {deck : List ℕ} {p t : ℕ} (short : length deck ≤ 65536) (r : Reached deck p t) where
-  at-end : length deck ≤ p → (b : Bool) → eqb t 0 ≡ b → Found deck
-  at-end l true q =
+  at_end : length deck ≤ p → (b : Bool) → eqb t 0 ≡ b → Found deck
+  at_end l true q =
       let e : p ≡ length deck = omega (arith, bounds r) in
       (_, _, says_none (record { short = short; all = subst₂ (Reached deck) e (eqb-true t 0 q) r; there = refl }))
-  at-end l false q =
+  at_end l false q =
       let e : p ≡ length deck = omega (arith, bounds r) in
       let n = eqb-false t 0 q in
       let s : t ≡ 1 = omega (arith, bounds r) in
       (_, _, says_good (record { short = short; all = subst₂ (Reached deck) e s r }))
 
-  at-card : p < length deck → (AsDue deck p → t + firsts deck p ≤ 1 → Found deck) → (b : Bool) → leb (t + firsts deck p) 1 ≡ b → Found deck
-  at-card here more true e =
+  at_card : p < length deck → (AsDue deck p → t + firsts deck p ≤ 1 → Found deck) → (b : Bool) → leb (t + firsts deck p) 1 ≡ b → Found deck
+  at_card here more true e =
       let l = leb-true (t + firsts deck p) 1 e in
       let m : Met deck p = record { short = short; firsts_before = t; before = r; here = here; no_second = l } in
       ⊎_elim (λ h. more h l) (λ f. f) (by_kind m (leb 1 (size m)) refl)
-  at-card here more false e =
+  at_card here more false e =
       let s = second_is deck p t (bounds r).1 (leb-false (t + firsts deck p) 1 e) in
       (_, _, says_second (record { short = short; before = subst (Reached deck p) s.0 r; here = here; again = s.1 }))
 
 walk : {deck : List ℕ} (n : ℕ) {p t : ℕ} → length deck ≤ 65536 → length deck ≤ p + n → Reached deck p t → Found deck
-walk zero {t = t} short l r = at-end short r (omega arith) (eqb t 0) refl
+walk zero {t = t} short l r = at_end short r (omega arith) (eqb t 0) refl
 walk {deck} (suc n) {p} {t} short l r = by_place (λ q u (s : Reached deck q u) m. walk n short m s) (ltb p (length deck)) refl
   where
     by_place : ((q u : ℕ) → Reached deck q u → length deck ≤ q + n → Found deck) → (b : Bool) → ltb p (length deck) ≡ b → Found deck
     by_place more true e =
-        at-card short r (ltb-true p (length deck) e) (λ h m. more _ _ (one_more r h m) (omega (arith, h.known))) (leb (t + firsts deck p) 1) refl
-    by_place more false e = at-end short r (ltb-false p (length deck) e) (eqb t 0) refl
+        at_card short r (ltb-true p (length deck) e) (λ h m. more _ _ (one_more r h m) (omega (arith, h.known))) (leb (t + firsts deck p) 1) refl
+    by_place more false e = at_end short r (ltb-false p (length deck) e) (eqb t 0) refl
 
 pub found : (deck : List ℕ) → Found deck
 found deck = by_test (ltb 65536 (length deck)) refl

@@ -119,8 +119,8 @@ pub refuses_words : (o : Order) → (o.numbers → ⊥) → Answers o (Refused N
 refuses_words o n =
     given o (Refused NotNumber) n (λ d. refl) (λ d. absurd (n d.0)) (λ d. absurd (n d.0)) (λ d. absurd (n d.0.0)) (λ w d. absurd (n d.0.0))
 
-pub refuses-zero : (o : Order) → o.numbers → o.zero_divisor → (o.negative_root → ⊥) → Answers o (Refused ZeroDivisor)
-refuses-zero o n z p =
+pub refuses_zero : (o : Order) → o.numbers → o.zero_divisor → (o.negative_root → ⊥) → Answers o (Refused ZeroDivisor)
+refuses_zero o n z p =
     given o (Refused ZeroDivisor) (n, z) (λ d. absurd (d n)) (λ d. refl) (λ d. absurd (p d.1)) (λ d. absurd (d.0.1 z)) (λ w d. absurd (d.0.1 z))
 
 pub refuses_negative : (o : Order) → o.numbers → (o.zero_divisor → ⊥) → o.negative_root → Answers o (Refused NegativeRoot)

@@ -51,8 +51,8 @@ entered c o e = by_fit (drum_fits (length c.drum) c.marks (view c.drum c.marks))
 
 module _ (c : RunCall) (h : Entered c) where
   -- what drum and marks show is what the cells are
-  pub left-view : view (overlay c.drum (course c).machine.cells) (marks_of (course c).machine.cells) ≡ (course c).machine.cells
-  left-view = view-again c.drum (course c).machine.cells ((lent c h).drum_long ∙ sym (left_sound c h).cells.long)
+  pub left_view : view (overlay c.drum (course c).machine.cells) (marks_of (course c).machine.cells) ≡ (course c).machine.cells
+  left_view = view-again c.drum (course c).machine.cells ((lent c h).drum_long ∙ sym (left_sound c h).cells.long)
 
   following_entered : (out : List ℕ) (budget : ℕ) (switches : Switches) → budget ≤ 999999 → Entered (following c (ran_as c (course c)) out budget switches)
   unfolding ran_as drum_fits
@@ -61,7 +61,7 @@ module _ (c : RunCall) (h : Entered c) where
       record {
         drum_fits_lem =
             rw (
-              left-view,
+              left_view,
               eq-eqb (length (overlay c.drum v)) 1000 (length-overlay c.drum v ∙ (lent c h).drum_long),
               eq-eqb (length (marks_of v)) 1000 (length_marks v ∙ (left_sound c h).cells.long),
               marks_of_fit v,
@@ -71,7 +71,7 @@ module _ (c : RunCall) (h : Entered c) where
         order = h.order;
         problem = h.problem;
         deck_good = h.deck_good;
-        state_fits_lem = rw left-view (steady_fits v c.deck h.first (course c).machine.state budget l (left_sound c h).state (left_sound c h).cells.owned);
+        state_fits_lem = rw left_view (steady_fits v c.deck h.first (course c).machine.state budget l (left_sound c h).state (left_sound c h).cells.owned);
       }
 
   pub again_entered : (out : List ℕ) (budget : ℕ) (switches : Switches) → budget ≤ 999999 → Entered (following c (ran c) out budget switches)

@@ -55,10 +55,10 @@ module _ (drum marks : List ℕ) where
       by_fit true e = rw e (load_kept_from deck s t (deck_of deck) (fit drum marks e))
       by_fit false e = rw e (nothing_done drum marks _ refl)
 
-  run-kept_from : (deck out : List ℕ) (s : State) (n : ℕ) (t : Switches) (k : Deck) → Fit drum marks → Kept drum marks (after_run (ran_on present (run_of drum marks deck out s n t) k))
+  run_kept_from : (deck out : List ℕ) (s : State) (n : ℕ) (t : Switches) (k : Deck) → Fit drum marks → Kept drum marks (after_run (ran_on present (run_of drum marks deck out s n t) k))
   unfolding ran_on ran_as
-  run-kept_from deck out s n t (Faulty f) h = nothing_done drum marks _ refl
-  run-kept_from deck out s n t (Good behind order problem) h = by_state (state_fits (view drum marks) deck behind s n) refl
+  run_kept_from deck out s n t (Faulty f) h = nothing_done drum marks _ refl
+  run_kept_from deck out s n t (Good behind order problem) h = by_state (state_fits (view drum marks) deck behind s n) refl
     where
       by_state : (b : Bool) → state_fits (view drum marks) deck behind s n ≡ b
           → Kept drum marks (after_run (ran_on present (run_of drum marks deck out s n t) (Good behind order problem)))
@@ -68,17 +68,17 @@ module _ (drum marks : List ℕ) where
           laid_over drum marks (run_from (inputs c) n (begun c) 0).machine.cells _ h (run_grows (inputs c) n (begun c) 0) refl)
       by_state false e = rw e (nothing_done drum marks _ refl)
 
-  run-kept : (deck out : List ℕ) (s : State) (n : ℕ) (t : Switches) → Kept drum marks (after_run (ran (run_of drum marks deck out s n t)))
+  run_kept : (deck out : List ℕ) (s : State) (n : ℕ) (t : Switches) → Kept drum marks (after_run (ran (run_of drum marks deck out s n t)))
   unfolding ran_by
-  run-kept deck out s n t = by_fit (drum_fits (length drum) marks (view drum marks)) refl
+  run_kept deck out s n t = by_fit (drum_fits (length drum) marks (view drum marks)) refl
     where
       by_fit : (b : Bool) → drum_fits (length drum) marks (view drum marks) ≡ b → Kept drum marks (after_run (ran (run_of drum marks deck out s n t)))
-      by_fit true e = rw e (run-kept_from deck out s n t (deck_of deck) (fit drum marks e))
+      by_fit true e = rw e (run_kept_from deck out s n t (deck_of deck) (fit drum marks e))
       by_fit false e = rw e (nothing_done drum marks _ refl)
 
   call_kept : (c : Call) (s : State) → Kept drum marks (called c drum marks s)
   call_kept (load st deck t) s = load_kept deck (start_of st s) t
-  call_kept (run st deck out n t) s = run-kept deck out (start_of st s) n t
+  call_kept (run st deck out n t) s = run_kept deck out (start_of st s) n t
   call_kept (make out order posed) s = nothing_done drum marks _ refl
 
 pub foreign_kept : ForeignKept

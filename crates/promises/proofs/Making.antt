@@ -210,9 +210,9 @@ module _ (c : MakeCall) (n : ℕ) (h : Done c n (made c)) (drum marks : List ℕ
   seen_again : view (overlay drum cells) (marks_of cells) ≡ cells
   seen_again = view-again drum cells (there.drum_long ∙ sym given.long)
 
-  fits-again : drum_fits (length (overlay drum cells)) (marks_of cells) (view (overlay drum cells) (marks_of cells)) ≡ true
+  fits_again : drum_fits (length (overlay drum cells)) (marks_of cells) (view (overlay drum cells) (marks_of cells)) ≡ true
   unfolding drum_fits
-  fits-again =
+  fits_again =
       simp (
         eq-eqb (length (overlay drum cells)) 1000 (length-overlay drum cells ∙ there.drum_long),
         eq-eqb (length (marks_of cells)) 1000 (length_marks cells ∙ given.long),
@@ -231,7 +231,7 @@ module _ (c : MakeCall) (n : ℕ) (h : Done c n (made c)) (drum marks : List ℕ
       let same : deck_for d ≡ deck_for c =
       ap (λ (v : List Cell). deck_made v c.order c.problem) seen_again ∙ deck_same cells (cells_of c) given.others c.order c.problem in
       let long : length (deck_for d) ≡ n = ap length same ∙ h.long in
-      let y : made d ≡ made_as d = is_made d fits-again (numbers_fit_lem h.checks) (omega arith) in
+      let y : made d ≡ made_as d = is_made d fits_again (numbers_fit_lem h.checks) (omega arith) in
       record {
         making_same = ap (λ (x : MakeResult). x.making) y ∙ ap Made long;
         deck_same =
@@ -244,8 +244,8 @@ module _ (c : MakeCall) (n : ℕ) (h : Done c n (made c)) (drum marks : List ℕ
 pub loads_the_same : LoadsTheSame
 loads_the_same c n e drum marks k s traced = restored c n (done c n e) drum marks k.valid k.unmarked s traced
 
-pub same_deck-again : SameDeckAgain
-same_deck-again c n e drum marks k s traced room l = made_again c n (done c n e) drum marks k.valid k.unmarked s traced room l
+pub same_deck_again : SameDeckAgain
+same_deck_again c n e drum marks k s traced room l = made_again c n (done c n e) drum marks k.valid k.unmarked s traced room l
 
 -- ---- what is written
 

@@ -38,7 +38,7 @@ module _ (i : Inputs) (m : Machine) (order w : ℕ) (h : Next i m order w) where
   pub step_is : step i m ≡ obeyed i (told m order w) w
   unfolding step fetched
   step_is =
-      rw (le-leb 1 m.state.location h.behind-000, le-leb m.state.location 999 h.within, h.cell, h.fits, h.is_done_as) traced_is
+      rw (le-leb 1 m.state.location h.behind_000, le-leb m.state.location 999 h.within, h.cell, h.fits, h.is_done_as) traced_is
 
 -- ---- by its code, which is not PCH's, its checks and itself
 

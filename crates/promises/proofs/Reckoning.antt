@@ -23,7 +23,7 @@ use Rattle.rules.proofs.Words.{number_full, number_leading, number_word, root_ro
 use Rattle.promises.specs.Rounding.{of_fraction, of_root, RoundedTo, Rounds}
 use Rattle.promises.specs.Reckoning.{WordDue, Taken, Answers, Numbers, worth, above, below, sign_left, left, up, down, summing, product, AllReckoned, adding, subtracting, multiplying, multiplying_negatively, dividing, taking_root, taking_magnitude}
 use Rattle.promises.proofs.Rounding.{fraction_rounds, root_rounds}
-use Rattle.promises.proofs.Due.{Sized, answers, word_due, refuses-zero, refuses_negative, of_two, of_one}
+use Rattle.promises.proofs.Due.{Sized, answers, word_due, refuses_zero, refuses_negative, of_two, of_one}
 
 -- ---- sums
 
@@ -183,7 +183,7 @@ module _ (a b : ℕ) where
       exact k = word_of (settled single ((sign_in a + sign_in b) % 2) (fraction (leading_in a * 10 ^ k) (leading_in b * 10 ^ exponent_in b)))
 
       by_test : (c : Bool) → eqb b 0 ≡ c → Numbers a b → Answers (dividing a b) (pick c (Refused ZeroDivisor) (exact (exponent_in a + 57 + 100)))
-      by_test true i n = refuses-zero (dividing a b) n (eqb-true b 0 i) (λ d. d)
+      by_test true i n = refuses_zero (dividing a b) n (eqb-true b 0 i) (λ d. d)
       by_test false i n = subst (λ (k : ℕ). Answers (dividing a b) (exact k)) shifted (quotients n (eqb-false b 0 i))
 
 -- the root of a number, and its magnitude

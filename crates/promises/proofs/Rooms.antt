@@ -14,7 +14,7 @@ use Rattle.promises.specs.Again.{again}
 use Rattle.promises.specs.Rooms.{is_full, Came, came_to, within, room_after_room, OneLargeRoom, most_sent, LargeEnough, more, NeverFull}
 use Rattle.rules.proofs.Entered.{Entered, course, ran_course, begun_sound}
 use Rattle.promises.proofs.Again.{ran_outcome}
-use Rattle.promises.proofs.Barred.{not_full, is_not_full, Barred, either_way, barred-not_full, of_call}
+use Rattle.promises.proofs.Barred.{not_full, is_not_full, Barred, either_way, barred_not_full, of_call}
 use Rattle.promises.proofs.Beside.{Is, last_room, count_is_course, course_full, rooms_are}
 
 -- ---- calls that are refused at their entry
@@ -26,7 +26,7 @@ one_room_only (out ∷ outs) c e = rw (e, room_after_room)
 
 barred_same : (c : RunCall) (outs : List (List ℕ)) (whole : List ℕ) → Barred c → room_after_room outs c ≡ came_to (ran (within c whole))
 barred_same c outs whole h =
-    one_room_only outs c (barred-not_full c h)
+    one_room_only outs c (barred_not_full c h)
     ∙ ap came_to (h.1 c.out)
     ∙ ap came_to (sym (h.1 whole))
 
@@ -75,7 +75,7 @@ large_enough c l =
     (λ h.
     is_not_full (ran c).ending (course c).outcome (ran_outcome c h)
     (run_fits (inputs c) h.first (good_tail c.deck h.first h.order h.problem h.deck_good) c.budget (begun c) 0 (begun_sound c h) (omega arith)))
-    (barred-not_full c)
+    (barred_not_full c)
 
 -- a room that holds what any order writes becomes full only behind an order that was done
 pub full_counts : (c : RunCall) → most_sent ≤ length c.out → is_full (ran c).ending ≡ true → 0 < (ran c).count
@@ -85,7 +85,7 @@ full_counts c l f =
     rw (count_is_course c h f [])
     (full_took (inputs c) h.first (good_tail c.deck h.first h.order h.problem h.deck_good) c.budget (begun c) 0 (begun_sound c h) l
     (course_full c h f [])))
-    (λ h. absurd (true≢false (sym f ∙ barred-not_full c h)))
+    (λ h. absurd (true≢false (sym f ∙ barred_not_full c h)))
 
 pub never_full : NeverFull
 unfolding room_after_room

@@ -65,9 +65,9 @@ module _ (b : Block) (bs : List Block) (x : ℕ) where
   unfolding times
   times_there i l = simp (le-leb b.location x i, lt-ltb x (b.location + b.cells) l)
 
-  times-behind : b.location + b.cells ≤ x → times (b ∷ bs) x ≡ times bs x
+  times_behind : b.location + b.cells ≤ x → times (b ∷ bs) x ≡ times bs x
   unfolding times
-  times-behind l = simp (le-leb b.location x (omega arith), le-ltb x (b.location + b.cells) l) (omega arith)
+  times_behind l = simp (le-leb b.location x (omega arith), le-ltb x (b.location + b.cells) l) (omega arith)
 
 -- ---- cards in order
 
@@ -151,7 +151,7 @@ times_from {v} (takes {a = a} {n = n} {bs = bs} s r c) l x i = by_end (ltb x (a 
           none_before {a = a + n} (made_ascend c (omega arith)) x h,
           mark_owned (cell_at v x) (r.owned x i h),
         )
-    by_end false f go = let h = ltb-false x (a + n) f in times-behind b bs x h ∙ go h
+    by_end false f go = let h = ltb-false x (a + n) f in times_behind b bs x h ∙ go h
 
 pub each_once : EachOnce
 each_once v l = (all_bear (all_ahead v).cut l (omega arith), times_from (all_ahead v).cut (omega (arith, (all_ahead v).enough)))
@@ -209,7 +209,7 @@ are_these {v} (takes {a = a} {n = n} s h c) l (and_then {b = b} {bs = bs} i w r)
     let size : b.cells ≡ n = one_run run (subst (λ (x : ℕ). Run v x n 5) (sym at) h) in
     let rest : bs ≡ _ =
     are_these c (omega arith) (subst (λ (x : ℕ). Ascend v x bs) (omega arith) r) (both-second (may_bear b) (all_may_bear bs) bear)
-    (λ x j. sym (times-behind b bs x (omega arith)) ∙ just x (omega arith)) in
+    (λ x j. sym (times_behind b bs x (omega arith)) ∙ just x (omega arith)) in
     ap₂ (λ (x : Block) (xs : List Block). x ∷ xs) (ap₂ (λ (x j : ℕ). record { location = x; cells = j }) at size) rest
 
 pub only_these : OnlyThese

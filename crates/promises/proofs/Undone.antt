@@ -99,10 +99,10 @@ run_differs : {A : Type 0} (o : Outcome) (b : Bar) → Ran o ≡ NotRun b → A
 run_differs o b e = let z : ◌≡◌ {A = ℕ} 0 1 = cc in let y : ⊥ = omega arith in absurd y
 
 module _ (c : RunCall) (b : Bar) where
-  run-barred : (k : Deck) → (ran_on present c k).ending ≡ NotRun b → ran_on present c k ≡ not_run c b
+  run_barred : (k : Deck) → (ran_on present c k).ending ≡ NotRun b → ran_on present c k ≡ not_run c b
   unfolding ran_on ran_as
-  run-barred (Faulty f) e = ap (not_run c) (same_run_bar (BadDeck f) b e)
-  run-barred (Good behind order problem) e = by_state (state_fits (view c.drum c.marks) c.deck behind c.state c.budget) refl
+  run_barred (Faulty f) e = ap (not_run c) (same_run_bar (BadDeck f) b e)
+  run_barred (Good behind order problem) e = by_state (state_fits (view c.drum c.marks) c.deck behind c.state c.budget) refl
     where
       by_state : (t : Bool) → state_fits (view c.drum c.marks) c.deck behind c.state c.budget ≡ t
           → ran_on present c (Good behind order problem) ≡ not_run c b
@@ -114,5 +114,5 @@ unfolding ran_by
 refused_run_changes_nothing c b e = by_fit (drum_fits (length c.drum) c.marks (view c.drum c.marks)) refl
   where
     by_fit : (t : Bool) → drum_fits (length c.drum) c.marks (view c.drum c.marks) ≡ t → ran c ≡ not_run c b
-    by_fit true f = rw f (run-barred c b (deck_of c.deck) (rw f at e))
+    by_fit true f = rw f (run_barred c b (deck_of c.deck) (rw f at e))
     by_fit false f = rw f (ap (not_run c) (same_run_bar BadDrum b (rw f at e)))

@@ -106,10 +106,10 @@ module _ (drum₁ drum₂ marks : List ℕ) (h : Alike drum₁ drum₂ marks) wh
           record { told_same = refl; alike = overlay_alike drum₁ drum₂ (run_from (inputs c) n (begun c) 0).machine.cells h.long })
       by_state false e = rw (one_view, e) (unchanged _ refl)
 
-  run-both : (deck out : List ℕ) (s : State) (n : ℕ) (t : Switches)
+  run_both : (deck out : List ℕ) (s : State) (n : ℕ) (t : Switches)
       → Matched (after_run (ran (run_of drum₁ marks deck out s n t))) (after_run (ran (run_of drum₂ marks deck out s n t)))
   unfolding ran_by
-  run-both deck out s n t = by_fit (drum_fits (length drum₂) marks (view drum₂ marks)) refl
+  run_both deck out s n t = by_fit (drum_fits (length drum₂) marks (view drum₂ marks)) refl
     where
       by_fit : (b : Bool) → drum_fits (length drum₂) marks (view drum₂ marks) ≡ b
           → Matched (after_run (ran (run_of drum₁ marks deck out s n t))) (after_run (ran (run_of drum₂ marks deck out s n t)))
@@ -128,7 +128,7 @@ module _ (drum₁ drum₂ marks : List ℕ) (h : Alike drum₁ drum₂ marks) wh
 
   one_call : (c : Call) (s : State) → Matched (called c drum₁ marks s) (called c drum₂ marks s)
   one_call (load st deck t) s = load_both deck (start_of st s) t
-  one_call (run st deck out n t) s = run-both deck out (start_of st s) n t
+  one_call (run st deck out n t) s = run_both deck out (start_of st s) n t
   one_call (make out order posed) s = make_both out order (problem_of posed s) s
 
 -- ---- any list of calls

@@ -58,7 +58,7 @@ pub record AsDue (deck : List ℕ) (p : ℕ) : Type 0 where
   pub known : Known deck p
   pub whole : Whole deck p
   pub due : DueUpto deck p (bytes_of (byte_at deck p))
-  pub in-range : InRange deck p
+  pub in_range : InRange deck p
 
 -- how many first-order cards it is
 abbrev pub firsts : List ℕ → ℕ → ℕ

@@ -9,7 +9,7 @@ use Rattle.rules.specs.declared.Cell.TheVariants.{Owned}
 -- The next order is the word `order` in its cell, and is done as w; where tracing is on, its trace card has room.
 pub record Next (i : Inputs) (m : Machine) (order w : ℕ) : Type 0 where
   pub long : length m.cells ≡ 1000
-  pub behind-000 : 1 ≤ m.state.location
+  pub behind_000 : 1 ≤ m.state.location
   pub within : m.state.location ≤ 999
   pub cell : cell_at m.cells m.state.location ≡ Owned order
   pub fits : order_fits m.state order ≡ true
