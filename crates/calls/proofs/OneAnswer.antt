@@ -23,7 +23,7 @@ use Rattle.calls.proofs.options.with_next.Reads as with-next
 use Rattle.calls.proofs.options.lacks_first.Kinds as lacks-first-kinds
 use Rattle.calls.proofs.options.lacks_first.Reads as lacks-first
 use Rattle.calls.proofs.options.at_end.Kinds as at-end-kinds
-use Rattle.calls.proofs.options.at_end.Reads as at-end
+use Rattle.calls.proofs.options.at_end.Reads as the_end
 use Rattle.calls.proofs.options.is_traced.Kinds as is-traced-kinds
 use Rattle.calls.proofs.options.is_traced.Reads as is-traced
 use Rattle.calls.proofs.options.switches_of.Kinds as switches-of-kinds
@@ -61,7 +61,7 @@ one_next κs a x y s t p q = p ∙ sym q
 pub one_lack : OneResult 0 lacks-first-kinds.ps lacks-first-kinds.r lacks-first.Post
 one_lack κs a x y s t p q = p ∙ sym q
 
-pub one_end : OneResult 0 at-end-kinds.ps at-end-kinds.r at-end.Post
+pub one_end : OneResult 0 at-end-kinds.ps at-end-kinds.r the_end.Post
 one_end κs a x y s t p q = p ∙ sym q
 
 pub one_traced : OneResult 0 is-traced-kinds.ps is-traced-kinds.r is-traced.Post

@@ -33,9 +33,9 @@ length_part deck at = ap length (part_is deck at) ∙ length-drop at deck
 
 -- ---- the card met
 
-met-second : (sofar : Deck) (p : Piece) → is_second sofar (get_or p.rest 0 0) ≡ true → met sofar p ≡ Bad SecondFirst 0
-met-second (Good behind order problem) p e = rw e
-met-second (Faulty f) p e = absurd (let z : ◌≡◌ {A = ℕ} 0 1 = cc in omega arith)
+met_second_lem : (sofar : Deck) (p : Piece) → is_second sofar (get_or p.rest 0 0) ≡ true → met sofar p ≡ Bad SecondFirst 0
+met_second_lem (Good behind order problem) p e = rw e
+met_second_lem (Faulty f) p e = absurd (let z : ◌≡◌ {A = ℕ} 0 1 = cc in omega arith)
 
 met_other : (sofar : Deck) (p : Piece) → is_second sofar (get_or p.rest 0 0) ≡ false → met sofar p ≡ p.card
 met_other (Good behind order problem) p e = rw e
@@ -69,7 +69,7 @@ module _ {deck : List ℕ} {at : ℕ} {sofar : Deck} (h : Checking deck at sofar
   check_second l s =
       ap (λ (b : ℕ). Faulty (At at SecondFirst b)) (omega arith)
       ∙ bad_here l SecondFirst 0
-      (met-second sofar (piece at (drop at deck)) (ap (λ (d : List ℕ). is_second sofar (get_or d 0 0)) (sym (part_is deck at)) ∙ s))
+      (met_second_lem sofar (piece at (drop at deck)) (ap (λ (d : List ℕ). is_second sofar (get_or d 0 0)) (sym (part_is deck at)) ∙ s))
 
 -- the card at `at` is of the form f, and no second first-order card
 pub record Met (deck : List ℕ) (at : ℕ) (sofar : Deck) (f : Form) : Type 0 where

@@ -11,7 +11,7 @@ use borrow.Author.Tests.{eq-eqb, ne_eqb}
 use Rattle.rules.specs.Cards.{number_in, bad_from, cells_fit, is_data_kind, card_of}
 use Rattle.rules.specs.declared.Fault.TheVariants.{UnknownKind, CutShort, BadByte, BadPlace}
 use Rattle.rules.specs.declared.Card.TheVariants.{Data, First, Bad, End}
-use Rattle.rules.proofs.ByKind.{words_of, bytes_of, field_of, cells_of, Formed, read_unknown, read_known, read-cut, read_byte, read-place, read_first, read_data}
+use Rattle.rules.proofs.ByKind.{words_of, bytes_of, field_of, cells_of, Formed, read_unknown, read_known, read_cut, read_byte, read_place, read_first, read_data}
 use Rattle.card.specs.declared.fields.Form.{Form}
 use Rattle.card.specs.Forms.{form_of}
 
@@ -59,7 +59,7 @@ module _ {d : List ℕ} {f : Form} (h : Begun d f) where
       (sym (h.form ∙ (form_is (get_or d 0 0)).1 l)) (read_known d (pos_of_ne-zero h.some) l)
 
   pub card_cut : (f.size ≡ 0 → ⊥) → length d < f.size → card_of d ≡ Bad CutShort 0
-  card_cut known = read-cut (card_formed known)
+  card_cut known = read_cut (card_formed known)
 
 module _ {d : List ℕ} {f : Form} {b : ℕ} (h : Whole d f b) where
   whole_formed : Formed d (eqb (get_or d 0 0) 84) f.words f.size f.place f.cells
@@ -69,7 +69,7 @@ module _ {d : List ℕ} {f : Form} {b : ℕ} (h : Whole d f b) where
   card_byte = read_byte whole_formed h.whole (sym h.looked)
 
   pub card_place : f.size ≤ b → cells_fit (number_in d f.place 3) f.cells ≡ false → card_of d ≡ Bad BadPlace f.place
-  card_place = read-place whole_formed h.whole (sym h.looked)
+  card_place = read_place whole_formed h.whole (sym h.looked)
 
   pub card_first : f.size ≤ b → cells_fit (number_in d f.place 3) f.cells ≡ true → get_or d 0 0 ≡ 84
       → card_of d ≡ First (number_in d f.place 3) (number_in d 4 3)

@@ -13,7 +13,7 @@ use Rattle.rules.specs.declared.Card.TheVariants.{Data}
 use Rattle.rules.proofs.Tests.{both_first}
 use Rattle.rules.proofs.Digits.{number_below}
 use Rattle.rules.proofs.Fields.{word_below, length_data}
-use Rattle.rules.proofs.CardTrips.{DataRead, data_is, data_read, data_written-read, data_written_words, data_read-written}
+use Rattle.rules.proofs.CardTrips.{DataRead, data_is, data_read, data_written_read, data_written_words, data_read_written}
 use Rattle.card.specs.Written.{data_may}
 use Rattle.card.proofs.Writes.{May, may_is, is_may, was_whole}
 use Rattle.card.specs.Trips.{WrittenIsRead, ReadIsWritten}
@@ -29,7 +29,7 @@ written_is_read number location words n problem before after read l w e =
     let t : length ws ≡ n = length-take-le n words (omega (arith, m.few)) in
     let q : after ≡ card ++ rest = w.bytes ∙ ap (λ (s : Bool). pick s (card ++ rest) before) (sym w.answer) in
     let r : DataRead (card ++ rest) number location (length ws) problem (11 + 11 * length ws) =
-    data_written-read number location ws problem rest (omega (arith, m.some)) (omega (arith, m.few)) (omega (arith, m.numbered))
+    data_written_read number location ws problem rest (omega (arith, m.some)) (omega (arith, m.few)) (omega (arith, m.numbered))
     m.from (omega (arith, m.upto)) (omega (arith, m.posed)) in (
       e
           ∙ ap card_of q
@@ -59,6 +59,6 @@ read_is_written d number location n problem size words before after said l e s r
     let h : (said ≡ true) × (after ≡ over card before) =
     was_whole w (is_may number location words n problem m) (omega (arith, length_data number location ws problem, r.long)) in
     let q : card ≡ take size d =
-    data_read-written d number location problem size ws
+    data_read_written d number location problem size ws
     (subst (λ (k : ℕ). DataRead d number location k problem size) (sym t) r) (λ i h. same i (omega arith)) in
     (h.0, h.1 ∙ ap (λ (c : List ℕ). over c before) q)

@@ -15,7 +15,7 @@ use Rattle.rules.specs.Drum.{word_at}
 use Rattle.rules.specs.Orders.{words_from}
 use Rattle.rules.specs.Running.{over}
 use Rattle.rules.specs.declared.Cell.{Cell}
-use Rattle.rules.proofs.Tests.{both_first, both-second}
+use Rattle.rules.proofs.Tests.{both_first, both_second}
 use Rattle.rules.proofs.Fields.{AllWords}
 use Rattle.card.specs.Written.{all_words, data_may, fits, Wrote, WroteLine}
 
@@ -25,7 +25,7 @@ words_tested : (ws : List ℕ) → all_words ws ≡ true → AllWords ws
 unfolding all_words
 words_tested [] e i l = absurd (let z : ⊥ = omega arith in z)
 words_tested (w ∷ ws) e zero l = leb-true w 19999999999 (both_first (is_word w) (all_words ws) e)
-words_tested (w ∷ ws) e (suc i) l = words_tested ws (both-second (is_word w) (all_words ws) e) i (le_of_suc-le-suc l)
+words_tested (w ∷ ws) e (suc i) l = words_tested ws (both_second (is_word w) (all_words ws) e) i (le_of_suc-le-suc l)
 
 all_tested : (ws : List ℕ) → AllWords ws → all_words ws ≡ true
 unfolding all_words
@@ -59,19 +59,19 @@ pub record May (number location : ℕ) (words : List ℕ) (n problem : ℕ) : Ty
 
 pub may_is : (number location : ℕ) (words : List ℕ) (n problem : ℕ) → data_may number location words n problem ≡ true → May number location words n problem
 may_is number location words n problem e =
-    let e₁ = both-second (leb number 9999) _ e in
-    let e₂ = both-second (leb 1 n) _ e₁ in
-    let e₃ = both-second (leb n 5) _ e₂ in
-    let e₄ = both-second (cells_fit location n) _ e₃ in
+    let e₁ = both_second (leb number 9999) _ e in
+    let e₂ = both_second (leb 1 n) _ e₁ in
+    let e₃ = both_second (leb n 5) _ e₂ in
+    let e₄ = both_second (cells_fit location n) _ e₃ in
     let c = both_first (cells_fit location n) _ e₃ in
     record {
       numbered = leb-true number 9999 (both_first (leb number 9999) _ e);
       some = leb-true 1 n (both_first (leb 1 n) _ e₁);
       few = leb-true n 5 (both_first (leb n 5) _ e₂);
       from = leb-true 1 location (both_first (leb 1 location) _ c);
-      upto = leb-true (location + n) 1000 (both-second (leb 1 location) _ c);
+      upto = leb-true (location + n) 1000 (both_second (leb 1 location) _ c);
       posed = leb-true problem 999 (both_first (leb problem 999) _ e₄);
-      signed = words_tested (take n words) (both-second (leb problem 999) _ e₄);
+      signed = words_tested (take n words) (both_second (leb problem 999) _ e₄);
     }
 
 pub is_may : (number location : ℕ) (words : List ℕ) (n problem : ℕ) → May number location words n problem → data_may number location words n problem ≡ true

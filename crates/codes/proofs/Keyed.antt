@@ -7,7 +7,7 @@ use borrow.Author.Tests.{lt-ltb, le-ltb, eq-eqb, ne_eqb, eqb-true, ltb-true, ltb
 use lib.Dec.{eqb, ltb}
 use Rattle.rules.specs.Words.{pick, a_in, first_digit}
 use Rattle.rules.specs.Codes.{code_in, is_block_move}
-use Rattle.rules.proofs.Tests.{both_first, both-second}
+use Rattle.rules.proofs.Tests.{both_first, both_second}
 use Rattle.codes.specs.Keys.{key_in, slot_of, code_of_slot}
 
 -- the digit is 0; it is MOVE with A not 000; neither
@@ -30,7 +30,7 @@ code_long w l m = by_move (is_block_move w) refl
     by_move : (t : Bool) → is_block_move w ≡ t → key_in w / 1000 * 1000 ≡ pick (eqb (first_digit w) 0) (a_in w) (pick t 9001 (1000 * first_digit w))
     by_move true e =
         let n : first_digit w ≡ 9 = eqb-true (first_digit w) 9 (both_first (eqb (first_digit w) 9) (ltb 0 (a_in w)) e) in
-        let a : 0 < a_in w = ltb-true 0 (a_in w) (both-second (eqb (first_digit w) 9) (ltb 0 (a_in w)) e) in
+        let a : 0 < a_in w = ltb-true 0 (a_in w) (both_second (eqb (first_digit w) 9) (ltb 0 (a_in w)) e) in
         let z : ⊥ = omega arith in
         absurd z
     by_move false e = simp d (omega arith)

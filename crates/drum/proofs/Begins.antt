@@ -10,7 +10,7 @@ use Rattle.rules.specs.Words.{is_word}
 use Rattle.rules.specs.Drum.{view, word_fits, words_fit, drum_fits}
 use Rattle.rules.specs.declared.Cell.{Cell}
 use Rattle.rules.specs.declared.Cell.TheVariants.{Foreign, Owned}
-use Rattle.rules.proofs.Tests.{both_first, both-second}
+use Rattle.rules.proofs.Tests.{both_first, both_second}
 use Rattle.rules.proofs.Views.{fit, overlay_view, marks_again, length-view}
 use Rattle.drum.specs.Held.{Words, Holds}
 
@@ -19,7 +19,7 @@ unfolding words_fit
 all_words [] e a = omega arith
 all_words (Foreign ∷ v) e zero = omega arith
 all_words (Owned w ∷ v) e zero = leb-true w 19999999999 (both_first (is_word w) (words_fit v) e)
-all_words (c ∷ v) e (suc a) = all_words v (both-second (word_fits c) (words_fit v) e) a
+all_words (c ∷ v) e (suc a) = all_words v (both_second (word_fits c) (words_fit v) e) a
 
 pub begins : (drum marks : List ℕ) → drum_fits (length drum) marks (view drum marks) ≡ true → Holds drum drum marks (view drum marks)
 begins drum marks e =

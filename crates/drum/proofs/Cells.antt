@@ -11,7 +11,7 @@ use Rattle.rules.specs.Words.{pick}
 use Rattle.rules.specs.Drum.{cell_of, view, cell_at, store}
 use Rattle.rules.specs.declared.Cell.{Cell}
 use Rattle.rules.specs.declared.Cell.TheVariants.{Foreign, Owned}
-use Rattle.rules.proofs.Views.{length-overlay, length_marks, marks_store, overlay-store, view-again}
+use Rattle.rules.proofs.Views.{length-overlay, length_marks, marks_store, overlay-store, view_again}
 use Rattle.drum.specs.Held.{Words, Holds, is_cell, Stored}
 
 -- ---- of any runs
@@ -63,7 +63,7 @@ store_words (c ∷ v) (suc a) w g h (suc i) = store_words v a w g (λ j. h (suc 
 module _ {drum₀ drum marks : List ℕ} {v : List Cell} (h : Holds drum₀ drum marks v) where
   -- the cells are those that the drum and the marks show
   pub seen : view drum marks ≡ v
-  seen = rw (h.drum_is, h.marks_are) (view-again drum₀ v (h.old_long ∙ sym h.long))
+  seen = rw (h.drum_is, h.marks_are) (view_again drum₀ v (h.old_long ∙ sym h.long))
 
   pub drum_long : length drum ≡ 1000
   drum_long = ap length h.drum_is ∙ length-overlay drum₀ v ∙ h.old_long
@@ -92,8 +92,8 @@ module _ {drum₀ drum marks : List ℕ} {v : List Cell} (h : Holds drum₀ drum
 
 -- ---- what a store leaves
 
-pub not-stored : (drum marks : List ℕ) (a w : ℕ) → is_cell drum marks a ≡ false → Stored drum marks a w drum marks
-not-stored drum marks a w e = record { drum_is = rw e; marks_are = rw e }
+pub not_stored : (drum marks : List ℕ) (a w : ℕ) → is_cell drum marks a ≡ false → Stored drum marks a w drum marks
+not_stored drum marks a w e = record { drum_is = rw e; marks_are = rw e }
 
 pub stored : (drum marks : List ℕ) (a w : ℕ) → a < length drum → a < length marks → Stored drum marks a w (set drum a w) (set marks a 1)
 stored drum marks a w h k =

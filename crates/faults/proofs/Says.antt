@@ -19,11 +19,11 @@ use Rattle.faults.specs.declared.layout.Field.{Field}
 use Rattle.faults.specs.declared.layout.Due.{Due}
 
 -- the start of two texts
-take-joined : (n : ℕ) (s t : List ℕ) → take n (s ++ t) ≡ take n s ++ take (n - length s) t
-take-joined zero s t = ap (λ (k : ℕ). take k t) (let e : 0 ≡ 0 - length s = omega arith in e)
-take-joined (suc n) [] t = ap (λ (k : ℕ). take k t) (let e : suc n ≡ suc n - 0 = omega arith in e)
-take-joined (suc n) (x ∷ s) t =
-    ap (λ (l : List ℕ). x ∷ l) (take-joined n s t ∙ ap (λ (k : ℕ). take n s ++ take k t) (let e : n - length s ≡ suc n - suc (length s) = omega arith in e))
+take_joined : (n : ℕ) (s t : List ℕ) → take n (s ++ t) ≡ take n s ++ take (n - length s) t
+take_joined zero s t = ap (λ (k : ℕ). take k t) (let e : 0 ≡ 0 - length s = omega arith in e)
+take_joined (suc n) [] t = ap (λ (k : ℕ). take k t) (let e : suc n ≡ suc n - 0 = omega arith in e)
+take_joined (suc n) (x ∷ s) t =
+    ap (λ (l : List ℕ). x ∷ l) (take_joined n s t ∙ ap (λ (k : ℕ). take n s ++ take k t) (let e : n - length s ≡ suc n - suc (length s) = omega arith in e))
 
 pub says_none : Says (record { bytes = replicate 256 0; size = 0 }) []
 unfolding over
@@ -40,7 +40,7 @@ module _ {l : Line} {s : List ℕ} (h : Says l s) where
       let a = take 256 s in
       let b = take (256 - l.size) t in
       let left : 256 - l.size ≡ 256 - length s = omega (arith, h.size, length-take 256 s) in
-      let joined : take 256 (s ++ t) ≡ a ++ b = take-joined 256 s t ∙ ap (λ (k : ℕ). a ++ take k t) (sym left) in
+      let joined : take 256 (s ++ t) ≡ a ++ b = take_joined 256 s t ∙ ap (λ (k : ℕ). a ++ take k t) (sym left) in
       let long : length b ≡ n = length-take (256 - l.size) t ∙ sym q in
       let begun : Put (replicate 256 0) 0 a l.size l.bytes =
       part_begin l.size (h.bytes ∙ sym (splice_start a (replicate 256 0))) (sym h.size) (omega arith) (omega (arith, within, length-replicate {A = ℕ} 256 0)) in

@@ -75,12 +75,12 @@ unfolding number_of
 number_more bytes i h =
     ap number_of (drop-cons bytes i 0 h) ∙ ap (λ (k : ℕ). get_or bytes i 0 + 256 * number_of (drop k bytes)) (sym (add-one i))
 
-pub in-at : (n : ℕ) (bytes : List ℕ) (i : ℕ) → i < n → get_or (row_in n bytes) i 0 ≡ number_of (take 8 (drop (8 * i) bytes))
+pub in_at : (n : ℕ) (bytes : List ℕ) (i : ℕ) → i < n → get_or (row_in n bytes) i 0 ≡ number_of (take 8 (drop (8 * i) bytes))
 unfolding row_in
-in-at zero bytes i h = absurd (let z : ⊥ = omega arith in z)
-in-at (suc n) bytes zero h = refl
-in-at (suc n) bytes (suc i) h =
-    in-at n (drop 8 bytes) i (le_of_suc-le-suc h)
+in_at zero bytes i h = absurd (let z : ⊥ = omega arith in z)
+in_at (suc n) bytes zero h = refl
+in_at (suc n) bytes (suc i) h =
+    in_at n (drop 8 bytes) i (le_of_suc-le-suc h)
     ∙ ap (λ (l : List ℕ). number_of (take 8 l)) (drop-drop (8 * i) 8 bytes ∙ ap (λ (k : ℕ). drop k bytes) (let e : 8 + 8 * i ≡ 8 * suc i = omega arith in e))
 
 -- ---- a number written is read, and read is written
@@ -159,8 +159,8 @@ module _ (drum marks : List ℕ) (s : State) (d : length drum ≡ 1000) (m : len
       ∙ ap state_in (row_read (numbers_of s) [] h)
       ∙ state_kept s k
 
-below-behind : (n : ℕ) (bytes : List ℕ) → AllBelow 256 bytes → n ≤ length bytes → AllBelow 256 (drop n bytes)
-below-behind n bytes h l i k = rw (get_or-drop n bytes i 0) (h (n + i) (omega (arith, length-drop n bytes)))
+below_behind : (n : ℕ) (bytes : List ℕ) → AllBelow 256 bytes → n ≤ length bytes → AllBelow 256 (drop n bytes)
+below_behind n bytes h l i k = rw (get_or-drop n bytes i 0) (h (n + i) (omega (arith, length-drop n bytes)))
 
 pub file_written : (bytes : List ℕ) → length bytes ≡ 9072 → AllBelow 256 bytes → file_of (drum_in bytes) (marks_in bytes) (state_of bytes) ≡ bytes
 unfolding file_of drum_in marks_in state_of
@@ -170,7 +170,7 @@ file_written bytes l h =
     let a : row_bytes (row_in 1000 bytes) ≡ take 8000 bytes = row_written 1000 bytes h (omega arith) in
     let b : row_bytes (numbers_of (state_in state)) ≡ drop 9000 bytes =
     ap row_bytes (kept state (length_in 9 (drop 9000 bytes)))
-    ∙ row_written 9 (drop 9000 bytes) (below-behind 9000 bytes h (omega arith)) (omega arith)
+    ∙ row_written 9 (drop 9000 bytes) (below_behind 9000 bytes h (omega arith)) (omega arith)
     ∙ take_all 72 (drop 9000 bytes) (omega arith) in
     ap₂ (λ (s t : List ℕ). s ++ take 1000 (drop 8000 bytes) ++ t) a b
     ∙ ap (λ (s : List ℕ). s ++ drop 9000 bytes) (sym (take-add 8000 1000 bytes))

@@ -14,7 +14,7 @@ use borrow.Author.Tests.{eqb-true}
 use Rattle.rules.specs.Words.{pick}
 use Rattle.octets.specs.Longer.{with_digit}
 use Rattle.file.specs.Texts.{is_gap, takes, ended, numbers_from, numbers_in, is_count}
-use Rattle.rules.proofs.Tests.{false-true}
+use Rattle.rules.proofs.Tests.{false_true}
 use Rattle.file.proofs.Numbers.{gap_read, digit_read, bad_read, too_many}
 use Rattle.file.specs.Reads.{Scanned}
 
@@ -44,7 +44,7 @@ ended_cells cells n true x h = ap (λ (k : ℕ). take k (set cells n x)) (add-on
 ended_cells cells n false x h = refl
 
 none_counted : {n : ℕ} {found : Option (List ℕ)} {cells : List ℕ} → is_count n found ≡ false → Scanned n found false cells
-none_counted e = record { answer = sym e; numbers = λ t. false-true t }
+none_counted e = record { answer = sym e; numbers = λ t. false_true t }
 
 module _ {size : ℕ} {text cells : List ℕ} {n : ℕ} {begun : Bool} {x i : ℕ} (r : Reading size text cells n begun x i) where
   here : i < length text → numbers_from (take n cells) begun x (get_or text i 0 ∷ drop (i + 1) text) ≡ numbers_in text

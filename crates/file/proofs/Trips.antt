@@ -13,7 +13,7 @@ use Rattle.rules.specs.States.{no_state}
 use Rattle.file.specs.Files.{is_whole, file_of, drum_in, marks_in, state_of}
 use Rattle.rules.specs.Running.{over}
 use Rattle.rules.specs.declared.State.{State}
-use Rattle.rules.proofs.Tests.{both_first, both-second}
+use Rattle.rules.proofs.Tests.{both_first, both_second}
 use Rattle.file.proofs.Files.{length_in, length_file, drum_read, marks_read, state_read, file_written}
 use Rattle.card.proofs.Writes.{was_whole}
 use Rattle.file.specs.Reads.{is_file}
@@ -24,7 +24,7 @@ drum_whole : (drum marks : List ℕ) → is_whole drum marks ≡ true → length
 drum_whole drum marks t = eqb-true (length drum) 1000 (both_first (eqb (length drum) 1000) _ t)
 
 marks_whole : (drum marks : List ℕ) → is_whole drum marks ≡ true → length marks ≡ 1000
-marks_whole drum marks t = eqb-true (length marks) 1000 (both-second (eqb (length drum) 1000) _ t)
+marks_whole drum marks t = eqb-true (length marks) 1000 (both_second (eqb (length drum) 1000) _ t)
 
 pub written_is_read : WrittenIsRead
 unfolding over
@@ -52,7 +52,7 @@ pub read_is_written : ReadIsWritten
 unfolding drum_in marks_in
 read_is_written bytes drum₀ marks₀ drum marks before after found said below r good room w =
     let t : is_file drum₀ marks₀ bytes ≡ true = sym r.good_is ∙ good in
-    let n : length bytes ≡ 9072 = eqb-true (length bytes) 9072 (both-second (is_whole drum₀ marks₀) _ t) in
+    let n : length bytes ≡ 9072 = eqb-true (length bytes) 9072 (both_second (is_whole drum₀ marks₀) _ t) in
     let d : drum ≡ drum_in bytes = r.drum_is ∙ ap (λ (u : Bool). pick u (drum_in bytes) drum₀) t in
     let m : marks ≡ marks_in bytes = r.marks_are ∙ ap (λ (u : Bool). pick u (marks_in bytes) marks₀) t in
     let s : found.state ≡ state_of bytes = r.state_is ∙ ap (λ (u : Bool). pick u (state_of bytes) no_state) t in

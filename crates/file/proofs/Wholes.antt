@@ -43,8 +43,8 @@ no_bytes drum marks bytes n =
 -- ---- a file
 
 module _ (drum marks bytes : List ℕ) where
-  pub not-read : {found : Found} → is_file drum marks bytes ≡ false → found ≡ not_found → FileRead drum marks bytes found drum marks
-  not-read e q =
+  pub not_read : {found : Found} → is_file drum marks bytes ≡ false → found ≡ not_found → FileRead drum marks bytes found drum marks
+  not_read e q =
       record {
         good_is = ap (λ (f : Found). f.good) q ∙ sym e;
         state_is = ap (λ (f : Found). f.state) q ∙ ap (λ (t : Bool). pick t (state_of bytes) no_state) (sym e);

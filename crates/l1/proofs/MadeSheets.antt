@@ -38,14 +38,14 @@ unfolding over
 by_room true c deck never = take-append_seam deck (drop (length deck) c.out)
 by_room false c deck never = absurd (never refl)
 
-deck-sheet : (c : MakeCall) (deck : List ℕ) → ((made_of c deck).making ≡ Full → ⊥) → make_sheet (made_of c deck) ≡ deck
+deck_sheet : (c : MakeCall) (deck : List ℕ) → ((made_of c deck).making ≡ Full → ⊥) → make_sheet (made_of c deck) ≡ deck
 unfolding made_of
-deck-sheet c deck never = by_room (leb (length deck) (length c.out)) c deck never
+deck_sheet c deck never = by_room (leb (length deck) (length c.out)) c deck never
 
 by_tests : (fit good : Bool) (c : MakeCall) (deck : List ℕ)
     → let x : MakeResult = pick fit (pick good (made_of c deck) (not_made c UnfitNumber)) (not_made c UnfitDrum) in
     (x.making ≡ Full → ⊥) → make_sheet x ≡ sheet_of fit good deck
-by_tests true true c deck never = deck-sheet c deck never
+by_tests true true c deck never = deck_sheet c deck never
 by_tests true false c deck never = refl
 by_tests false good c deck never = refl
 

@@ -8,7 +8,7 @@ use lib.ListN.{length, length-append, length-drop}
 use Rattle.rules.specs.Numbers.{outcome_number, outcome_shown}
 use Rattle.rules.specs.Running.{RunCall, RunResult, run_from, over, begun, inputs, ran_as, ran}
 use Rattle.rules.specs.declared.Ending.{Ending}
-use Rattle.rules.proofs.Tests.{false-true}
+use Rattle.rules.proofs.Tests.{false_true}
 use Rattle.machine.specs.Lent.{RunRight, call_of}
 use Rattle.machine.specs.declared.Ran.{Ran}
 use Rattle.says.specs.Told.{may_close}
@@ -20,15 +20,15 @@ use Rattle.l1.specs.declared.sessions.Gone.{Gone}
 
 -- ---- what was written is within the room, since the room is as long as before
 
-over-within : (sent out : List ℕ) → length (over sent out) ≡ length out → length sent ≤ length out
+over_within : (sent out : List ℕ) → length (over sent out) ≡ length out → length sent ≤ length out
 unfolding over
-over-within sent out e = omega (arith, simp (length-append, length-drop) at e)
+over_within sent out e = omega (arith, simp (length-append, length-drop) at e)
 
-ran-written : (c : RunCall) → length (ran c).out ≡ length c.out → (ran c).written ≤ length c.out
+ran_written : (c : RunCall) → length (ran c).out ≡ length c.out → (ran c).written ≤ length c.out
 unfolding ran_as
-ran-written c =
+ran_written c =
     of_run_lem (λ (r : RunResult). length r.out ≡ length c.out → r.written ≤ length c.out) c (λ b h. omega arith)
-    (λ f. over-within _ c.out)
+    (λ f. over_within _ c.out)
 
 -- ---- room after room
 
@@ -54,8 +54,8 @@ module _ (c : RunCall) {drum marks out : List ℕ} {r : Ran} (right : RunRight (
   pub count_fits : r.count ≤ c.budget
   count_fits = rw right.count_is (ran_count c)
 
-  pub written-fits : length out ≡ length c.out → r.written ≤ length c.out
-  written-fits e = rw right.written_is (ran-written c (ap length (sym right.out_is) ∙ e))
+  pub written_fits : length out ≡ length c.out → r.written ≤ length c.out
+  written_fits e = rw right.written_is (ran_written c (ap length (sym right.out_is) ∙ e))
 
   pub room_full : (n f : ℕ) (w : Whole) → 0 < f → may_refill r.ending r.count ≡ true → gone_on f c n ≡ w
       → gone_on (f - 1) (call_of drum marks out c.deck r.state (c.budget - r.count) c.switches) (n + r.count) ≡ w
@@ -63,9 +63,9 @@ module _ (c : RunCall) {drum marks out : List ℕ} {r : Ran} (right : RunRight (
       rw (right.drum_is, right.marks_are, right.out_is, right.state_is, right.count_is)
       (sym (gone_more c n (f - 1) (refill_is true e)) ∙ ap (λ (k : ℕ). gone_on k c n) (let z : suc (f - 1) ≡ f = omega arith in z) ∙ g)
 
-  pub run-over : (n f : ℕ) (w : Whole) → may_refill r.ending r.count ≡ false → gone_on f c n ≡ w
+  pub run_over : (n f : ℕ) (w : Whole) → may_refill r.ending r.count ≡ false → gone_on f c n ≡ w
       → WentOn w drum marks (record { sent = true; ending = r.ending; count = n + r.count; state = r.state })
-  run-over n f w e g =
+  run_over n f w e g =
       let q = sym g ∙ gone_end c n f (refill_is false e) in
       record {
         ending_is = right.ending_is ∙ sym (ap (λ (x : Whole). x.ending) q);
@@ -101,7 +101,7 @@ ended_closes c n h =
 refill_budget : (c : RunCall) → may_refill (ran c).ending (ran c).count ≡ true → c.budget ≤ 999999
 unfolding ran_as
 refill_budget c =
-    of_run_lem (λ (r : RunResult). may_refill r.ending r.count ≡ true → c.budget ≤ 999999) c (λ b e. false-true e) (λ f e. budget_small c f)
+    of_run_lem (λ (r : RunResult). may_refill r.ending r.count ≡ true → c.budget ≤ 999999) c (λ b e. false_true e) (λ f e. budget_small c f)
 
 abbrev Closes : Whole → Type 0
 Closes w = may_close w.ending w.state w.count ≡ true

@@ -14,7 +14,7 @@ use Rattle.rules.specs.Sheet.{closing}
 use Rattle.rules.specs.declared.Cell.{Cell}
 use Rattle.rules.specs.declared.State.{State}
 use Rattle.rules.specs.declared.Ending.{Ending}
-use Rattle.rules.proofs.Tests.{both_first, both-second}
+use Rattle.rules.proofs.Tests.{both_first, both_second}
 use Rattle.card.specs.Written.{fits, Wrote, WroteLine}
 use Rattle.file.specs.Files.{is_whole, file_of}
 use Rattle.file.proofs.Files.{length_file}
@@ -50,6 +50,6 @@ file_whole drum marks s {before} w q l =
     let e : fits (is_whole drum marks) file before ≡ true = sym w.answer ∙ q in
     let whole = both_first (is_whole drum marks) _ e in
     let d : length drum ≡ 1000 = eqb-true (length drum) 1000 (both_first (eqb (length drum) 1000) _ whole) in
-    let m : length marks ≡ 1000 = eqb-true (length marks) 1000 (both-second (eqb (length drum) 1000) _ whole) in
+    let m : length marks ≡ 1000 = eqb-true (length marks) 1000 (both_second (eqb (length drum) 1000) _ whole) in
     let n : length file ≡ length before = length_file drum marks s ∙ omega (arith, d, m, l) in
     w.bytes ∙ ap (λ (t : Bool). pick t (over file before) before) e ∙ over_all file before n

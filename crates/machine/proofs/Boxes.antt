@@ -11,7 +11,7 @@ use Rattle.rules.specs.Words.{pick, both, a_in, b_in, c_in}
 use Rattle.rules.specs.Machine.{Machine, count_a, count_b, count_c, counting}
 use Rattle.rules.specs.Running.{is_minus, sums_fit, order_fits, box_word, as_done}
 use Rattle.rules.specs.declared.State.{State}
-use Rattle.rules.proofs.Tests.{both_first, both-second}
+use Rattle.rules.proofs.Tests.{both_first, both_second}
 use Rattle.machine.specs.Lent.{Shows}
 use Rattle.rules.specs.States.{state_in}
 
@@ -54,5 +54,5 @@ done_word s w l f = by_sign (is_minus w) f
         let y : Bool = leb (b_in w + count_b s) 999 in
         let z : Bool = leb (c_in w + count_c s) 999 in
         small_sum w (count_a s) (count_b s) (count_c s) l (leb-true (a_in w + count_a s) 999 (both_first x (both y z) g))
-        (leb-true (b_in w + count_b s) 999 (both_first y z (both-second x (both y z) g)))
-        (leb-true (c_in w + count_c s) 999 (both-second y z (both-second x (both y z) g)))
+        (leb-true (b_in w + count_b s) 999 (both_first y z (both_second x (both y z) g)))
+        (leb-true (c_in w + count_c s) 999 (both_second y z (both_second x (both y z) g)))

@@ -13,9 +13,9 @@ use Rattle.rules.specs.declared.Outcome.TheVariants.{GoesOn}
 use Rattle.machine.specs.Lent.{Steady, Shows, Did}
 
 -- a raised count is at most what it is compared by, or what it was
-raise-fits : (x : Bool) (n k : ℕ) → n ≤ 999 → named x n ≤ k → k ≤ 999 → raise x n ≤ 999
-raise-fits true n k f g l = omega arith
-raise-fits false n k f g l = f
+raise_fits : (x : Bool) (n k : ℕ) → n ≤ 999 → named x n ≤ k → k ≤ 999 → raise x n ≤ 999
+raise_fits true n k f g l = omega arith
+raise_fits false n k f g l = f
 
 -- three counts put into ten numbers
 abbrev pub put : List ℕ → ℕ → ℕ → ℕ → List ℕ
@@ -38,9 +38,9 @@ module _ {drum₀ out₀ drum marks out row : List ℕ} {m : Machine} (h : Shows
       record {
         problem_fits = h.steady.problem_fits;
         three = refl;
-        a_fits = raise-fits x (count_a m.state) (most row x y z) h.steady.a_fits (omega (arith, e)) (omega arith);
-        b_fits = raise-fits y (count_b m.state) (most row x y z) h.steady.b_fits (omega (arith, e)) (omega arith);
-        c_fits = raise-fits z (count_c m.state) (most row x y z) h.steady.c_fits (omega (arith, e)) (omega arith);
+        a_fits = raise_fits x (count_a m.state) (most row x y z) h.steady.a_fits (omega (arith, e)) (omega arith);
+        b_fits = raise_fits y (count_b m.state) (most row x y z) h.steady.b_fits (omega (arith, e)) (omega arith);
+        c_fits = raise_fits z (count_c m.state) (most row x y z) h.steady.c_fits (omega (arith, e)) (omega arith);
       }
 
   pub round_again : {row' : List ℕ} → most row x y z < b → b < 1000

@@ -32,7 +32,7 @@ use Rattle.rules.specs.declared.Refusal.{Refusal}
 use Rattle.rules.specs.declared.Refusal.TheVariants.{BadAddress, NotBuilt, NotNumber}
 use Rattle.rules.specs.declared.Outcome.{Outcome}
 use Rattle.rules.specs.declared.Outcome.TheVariants.{Undone}
-use Rattle.rules.proofs.Tests.{both_first, both-second}
+use Rattle.rules.proofs.Tests.{both_first, both_second}
 use Rattle.rules.proofs.BlockMoves.{block_ends}
 use Rattle.codes.specs.Keys.{key_in, slot_of}
 use Rattle.codes.specs.Slots.{Indexed, built_in}
@@ -50,7 +50,7 @@ unless_passes true r y e = refl
 unless_passes false r y e = let z : ◌≡◌ {A = ℕ} 0 1 = cc in let w : ⊥ = omega arith in absurd w
 
 in_block : (b c : ℕ) → block_fits b c ≡ true → (1 ≤ b) × (b ≤ c)
-in_block b c e = (leb-true 1 b (both_first (leb 1 b) (leb b c) e), leb-true b c (both-second (leb 1 b) (leb b c) e))
+in_block b c e = (leb-true 1 b (both_first (leb 1 b) (leb b c) e), leb-true b c (both_second (leb 1 b) (leb b c) e))
 
 -- 20 and 21 of a class
 abbrev pub placed : Class → List Cell → ℕ → ℕ → ℕ → Checked
@@ -63,7 +63,7 @@ block_fits_lem k v a b c (inr f) e = in_block b c (unless_passes (block_fits b c
 blocks_lie : (k : Class) (v : List Cell) (a b c : ℕ) → k ≡ BlockMoved → placed k v a b c ≡ Passes → (b + a ≤ 1000) × (c + a ≤ 1000)
 blocks_lie k v a b c f e =
     let t = unless_passes (both (block_lies b a) (block_lies c a)) BadAddress _ (rw f at e) in
-    (block_ends b a (both_first (block_lies b a) (block_lies c a) t), block_ends c a (both-second (block_lies b a) (block_lies c a) t))
+    (block_ends b a (both_first (block_lies b a) (block_lies c a) t), block_ends c a (both_second (block_lies b a) (block_lies c a) t))
 
 allowed_by : (o : Operation) (k : Class) (v : List Cell) (a b c : ℕ) → Suits o k → placed k v a b c ≡ Passes → Allowed o a b c
 allowed_by (Reckon r) k v a b c s e = tt

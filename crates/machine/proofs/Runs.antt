@@ -24,7 +24,7 @@ use Rattle.rules.specs.declared.Bar.TheVariants.{BadDrum, BadDeck, BadState}
 use Rattle.rules.specs.declared.Outcome.{Outcome}
 use Rattle.rules.specs.declared.Outcome.TheVariants.{GoesOn, Stops, Undone}
 use Rattle.rules.specs.declared.Ending.TheVariants.{Ran as RanTo}
-use Rattle.rules.proofs.Tests.{both_first, both-second}
+use Rattle.rules.proofs.Tests.{both_first, both_second}
 use Rattle.drum.proofs.Begins.{begins}
 use Rattle.machine.specs.Lent.{Steady, Shows, Ended, RunRight, row_for, barred_as, ended_as, run_of}
 use Rattle.machine.specs.declared.Ran.{Ran}
@@ -65,18 +65,18 @@ steady_by : (v : List Cell) (deck : List ℕ) (behind : ℕ) (s : State) (budget
     → Steady s.problem s.counts
 unfolding state_fits
 steady_by v deck behind s budget e l =
-    let e₁ = both-second (leb budget 999999) _ e in
-    let e₂ = both-second (leb s.location 1000) _ e₁ in
+    let e₁ = both_second (leb budget 999999) _ e in
+    let e₂ = both_second (leb s.location 1000) _ e₁ in
     let box = both_first (box_fits s) _ e₂ in
-    let e₃ = both-second (box_fits s) _ e₂ in
-    let e₄ = both-second (leb s.counter 9999) _ e₃ in
-    let rest = both-second (leb (count_a s) 999) _ box in
+    let e₃ = both_second (box_fits s) _ e₂ in
+    let e₄ = both_second (leb s.counter 9999) _ e₃ in
+    let rest = both_second (leb (count_a s) 999) _ box in
     record {
       problem_fits = leb-true s.problem 999 (both_first (leb s.problem 999) _ e₄);
       three = l;
       a_fits = leb-true (count_a s) 999 (both_first (leb (count_a s) 999) _ box);
       b_fits = leb-true (count_b s) 999 (both_first (leb (count_b s) 999) _ rest);
-      c_fits = leb-true (count_c s) 999 (both-second (leb (count_b s) 999) _ rest);
+      c_fits = leb-true (count_c s) 999 (both_second (leb (count_b s) 999) _ rest);
     }
 
 -- ---- the call

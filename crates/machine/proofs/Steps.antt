@@ -30,9 +30,9 @@ module _ {drum₀ out₀ drum marks out row : List ℕ} {m : Machine} (h : Shows
   stands : l ≡ m.state.location
   stands = here ∙ location_is h
 
-  pub step-zero : l ≡ 0 → Did drum₀ out₀ drum marks out row (Undone BadAddress) (step i m)
+  pub step_zero : l ≡ 0 → Did drum₀ out₀ drum marks out row (Undone BadAddress) (step i m)
   unfolding step
-  step-zero e =
+  step_zero e =
       let q : l ≡ m.state.location = stands in
       rw (lt-leb 1 m.state.location (omega arith)) (stays h (Undone BadAddress))
 
@@ -63,10 +63,10 @@ module _ {drum₀ out₀ drum marks out row : List ℕ} {m : Machine} (h : Shows
       step_sums e = rw (step_is mine, fits_as e) (stays h (Undone BadAddress))
 
       -- the order x is told, and then obeyed
-      pub step-told : {x : ℕ} {d k o r : List ℕ} {u : Outcome} → order_fits (state_in row) w ≡ true → x ≡ as_done (state_in row) w
+      pub step_told : {x : ℕ} {d k o r : List ℕ} {u : Outcome} → order_fits (state_in row) w ≡ true → x ≡ as_done (state_in row) w
           → Did drum₀ out₀ d k o r u (traced i m w x) → Did drum₀ out₀ d k o r u (step i m)
       unfolding fetched
-      step-told {x} {d} {k} {o} {r} {u} f e t =
+      step_told {x} {d} {k} {o} {r} {u} f e t =
           subst (λ (y : Answer). Did drum₀ out₀ d k o r u y)
           (sym
           (step_is mine

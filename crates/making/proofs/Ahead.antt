@@ -11,7 +11,7 @@ use borrow.Author.Tests.{eqb-true, eqb-false}
 use Rattle.rules.specs.Codes.{owned_at}
 use Rattle.rules.specs.Making.{Block, neighbours}
 use Rattle.rules.specs.declared.Cell.{Cell}
-use Rattle.rules.proofs.Tests.{false-true}
+use Rattle.rules.proofs.Tests.{false_true}
 use Rattle.rules.proofs.Blocks.{one_run, run_of, Cut, no_steps, passes, takes, Ahead, none_behind}
 
 -- ---- neighbours
@@ -52,7 +52,7 @@ come_upon {v} {a} h n l e z = by_cut h.enough h.cut
   where
     by_cut : {k : ℕ} {bs : List Block} → 1000 ≤ a + k → Cut v k a bs → Next v a n bs
     by_cut m no_steps = let y : ⊥ = omega arith in absurd y
-    by_cut m (passes o c) = false-true (sym o ∙ (run_of v a 5).owned a (omega arith) (omega arith))
+    by_cut m (passes o c) = false_true (sym o ∙ (run_of v a 5).owned a (omega arith) (omega arith))
     by_cut m (takes {k = k} {n = j} {bs = bs} s r c) =
         let same : j ≡ n = one_run r (run_of v a 5) ∙ sym e in
         record {

@@ -38,14 +38,14 @@ record Held (c u : ℕ) : Type 0 where
 
 -- so the second step x, made by that scale, is e off the root of u times the digits m
 module _ (m n x c u e : ℕ) (some : 10 ^ 7 ≤ m) (positive : 0 < c * c) (held : Held c u) where
-  not-above : 6553600000 * n ≤ 49260004926 * m → c * (x - e) * (c * (x - e)) ≤ 4 * (n * (8589942784 * 8589942784)) → (x - e) * (x - e) ≤ m * u
-  not-above l high =
+  not_above : 6553600000 * n ≤ 49260004926 * m → c * (x - e) * (c * (x - e)) ≤ 4 * (n * (8589942784 * 8589942784)) → (x - e) * (x - e) ≤ m * u
+  not_above l high =
       le_of_mul-le-mul_right {k = c * c}
       (omega (arith, mul-le-mul_left m held.no_more))
       positive
 
-  not-beneath : (w : ℕ) → m * u ≤ w * w → w + e + 20001 ≤ 20000 * e → (x - e) * (x - e) ≤ m * u → 492599 * m ≤ 65536 * n → 4 * (n * (8589934592 * 8589934592)) < (x + 1) * c * ((x + 1) * c) → m * u ≤ (x + e) * (x + e)
-  not-beneath w root far under l low =
+  not_beneath : (w : ℕ) → m * u ≤ w * w → w + e + 20001 ≤ 20000 * e → (x - e) * (x - e) ≤ m * u → 492599 * m ≤ 65536 * n → 4 * (n * (8589934592 * 8589934592)) < (x + 1) * c * ((x + 1) * c) → m * u ≤ (x + e) * (x + e)
+  not_beneath w root far under l low =
       let most : x - e ≤ w = no_larger (m * u) (x - e) w under (omega arith) in
       let over : 20001 * (x + 1) ≤ 20000 * (x + e) = omega arith in
       le_of_mul-le-mul_right {k = c * c}
@@ -140,21 +140,21 @@ module _ (b : ℕ) (some : 10 ^ 9 ≤ b) (few : b ≤ 10 ^ 10) where
         scaled_low (scaled b) c t (p * q) (second b c) (mul-pos (omega (arith, above_least)) (omega (arith, beneath_least))) (cut_least p (guess b) c) (never_low (scaled b) p q t (omega (arith, t_least)))
 
   -- With the scale for an even exponent, and with that for an odd one.
-  in-unit : (c u e w : ℕ) (most : c ≤ 14894620) (least : 4710092 ≤ c) → b / 100 * u ≤ w * w → w + e + 20001 ≤ 20000 * e → 13252978135296 ≤ e * t c most least → Held c u → Within e (b / 100 * u) (second b c)
-  in-unit c u e w most least root far l held =
+  in_unit : (c u e w : ℕ) (most : c ≤ 14894620) (least : 4710092 ≤ c) → b / 100 * u ≤ w * w → w + e + 20001 ≤ 20000 * e → 13252978135296 ≤ e * t c most least → Held c u → Within e (b / 100 * u) (second b c)
+  in_unit c u e w most least root far l held =
       let positive : 0 < c * c = mul-pos {m = c} (omega arith) (omega arith) in
       let under : (second b c - e) * (second b c - e) ≤ b / 100 * u =
-      not-above (b / 100) (scaled b) (second b c) c u e (omega arith) positive held (omega arith) (second_high c most least e l) in
+      not_above (b / 100) (scaled b) (second b c) c u e (omega arith) positive held (omega arith) (second_high c most least e l) in
       record {
         low = under;
-        high = not-beneath (b / 100) (scaled b) (second b c) c u e (omega arith) positive held w root far under (omega arith) (second_low c most least);
+        high = not_beneath (b / 100) (scaled b) (second b c) c u e (omega arith) positive held w root far under (omega arith) (second_low c most least);
       }
 
   pub twice_even_lem : Within 1933 (b / 100 * 10 ^ 7) (second b even_scale)
-  twice_even_lem = in-unit even_scale (10 ^ 7) 1933 31622777 (omega arith) (omega arith) (omega arith) (omega arith) (omega (arith, by_least even_scale (omega arith) (omega arith))) (record { no_more = lit≤ tt; no_less = lit≤ tt })
+  twice_even_lem = in_unit even_scale (10 ^ 7) 1933 31622777 (omega arith) (omega arith) (omega arith) (omega arith) (omega (arith, by_least even_scale (omega arith) (omega arith))) (record { no_more = lit≤ tt; no_less = lit≤ tt })
 
   pub twice_odd_lem : Within 6111 (b / 100 * 10 ^ 8) (second b odd_scale)
-  twice_odd_lem = in-unit odd_scale (10 ^ 8) 6111 100000000 (omega arith) (omega arith) (omega arith) (omega arith) (omega (arith, by_least odd_scale (omega arith) (omega arith))) (record { no_more = lit≤ tt; no_less = lit≤ tt })
+  twice_odd_lem = in_unit odd_scale (10 ^ 8) 6111 100000000 (omega arith) (omega arith) (omega arith) (omega arith) (omega (arith, by_least odd_scale (omega arith) (omega arith))) (record { no_more = lit≤ tt; no_less = lit≤ tt })
 
   near_even : Near (b / 100 * 10 ^ 7) (second b even_scale)
   near_even = near_of (b / 100 * 10 ^ 7) (second b even_scale) 1933 10000000 (omega arith) (omega arith) (omega arith) twice_even_lem

@@ -6,7 +6,7 @@ use Rattle.rules.specs.Words.{pick, both, is_number}
 use Rattle.rules.specs.declared.Reckoned.{Reckoned}
 use Rattle.rules.specs.declared.Reckoned.TheVariants.{Refused}
 use Rattle.rules.specs.declared.Refusal.TheVariants.{NotNumber}
-use Rattle.rules.proofs.Tests.{both_first, both-second}
+use Rattle.rules.proofs.Tests.{both_first, both_second}
 
 -- told is what the code found of the test, and r what the order answers for numbers
 module _ (test : Bool) {told : Bool} (same : told ≡ test) (r : Reckoned) where
@@ -18,4 +18,4 @@ module _ (test : Bool) {told : Bool} (same : told ≡ test) (r : Reckoned) where
 
 pub numbers : (a b : ℕ) {told : Bool} → told ≡ both (is_number a) (is_number b) → told ≡ true → (is_number a ≡ true) × (is_number b ≡ true)
 numbers a b same t =
-    (both_first (is_number a) (is_number b) (sym same ∙ t), both-second (is_number a) (is_number b) (sym same ∙ t))
+    (both_first (is_number a) (is_number b) (sym same ∙ t), both_second (is_number a) (is_number b) (sym same ∙ t))

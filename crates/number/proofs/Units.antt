@@ -10,7 +10,7 @@ use Rattle.rules.specs.Rounded.{Rounded}
 use Rattle.rules.specs.declared.Reckoned.TheVariants.{Result, Refused}
 use Rattle.rules.specs.declared.Refusal.TheVariants.{OutOfRange}
 use Rattle.rules.proofs.Rounded.{unit_rounded}
-use Rattle.rules.proofs.Rounding.{placed-within, placed_below, placed-above, settled_is}
+use Rattle.rules.proofs.Rounding.{placed_within, placed_below, placed_above, settled_is}
 
 -- the unit u is the power e of ten, and in units a tenth as large there would be more than eight digits
 pub record Unit (h u e : ℕ) : Type 0 where
@@ -49,9 +49,9 @@ module _ (s m e : ℕ) where
   word_below l = ap word_of (placed_below single s m e l)
 
   pub word_above : 200 ≤ e → word_of (placed single s m e) ≡ Refused OutOfRange
-  word_above l = ap word_of (placed-above single s m e l)
+  word_above l = ap word_of (placed_above single s m e l)
 
   pub word_within : 100 ≤ e → e < 200 → word_of (placed single s m e) ≡ Result (s * 10000000000 + m * 100 + (e - 100))
-  word_within l g = ap word_of (placed-within single s m e l g)
+  word_within l g = ap word_of (placed_within single s m e l g)
 
 pub ruleset placed_words = (word_below, word_above, word_within)

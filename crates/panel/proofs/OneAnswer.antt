@@ -25,8 +25,8 @@ use Rattle.panel.proofs.calls.l1_make.Reads as make
 use Rattle.panel.proofs.calls.l1_run.Kinds as run-kinds
 use Rattle.panel.proofs.calls.l1_run.Reads as run
 
-pub one-add : OneResult 0 add-kinds.ps add-kinds.r add.Post
-one-add κs a x y s t p q = p ∙ sym q
+pub one_add_lem : OneResult 0 add-kinds.ps add-kinds.r add.Post
+one_add_lem κs a x y s t p q = p ∙ sym q
 
 pub one_sub : OneResult 0 sub-kinds.ps sub-kinds.r sub.Post
 one_sub κs a x y s t p q = p ∙ sym q

@@ -72,13 +72,13 @@ module _ (row : List ℕ) (c : LoadCall) where
 -- ---- run
 
 module _ (row : List ℕ) (c : RunCall) where
-  pub run-barred : {b : Bar} {r : Ended}
+  pub run_barred_lem : {b : Bar} {r : Ended}
       → is_state row ≡ false
       → b ≡ barred c.drum c.marks c.deck
       → r ≡ ending_told (NotRun b) 0 0
       → RunTold row (run_called row c) c.drum c.marks c.out row r
   unfolding run_called
-  run-barred {b} {r} h e t =
+  run_barred_lem {b} {r} h e t =
       subst⁻¹ (λ (x : RunResult). RunTold row x c.drum c.marks c.out row r) (decided _ _ h)
       (record {
         told_is = t ∙ ap (λ (k : Bar). ending_told (NotRun k) 0 0) e;
@@ -88,7 +88,7 @@ module _ (row : List ℕ) (c : RunCall) where
         row_is = sym (decided _ _ h);
       })
 
-  pub run-done : {c' : RunCall} {drum' marks' out' row' : List ℕ} {x : Ran} {r : Ended}
+  pub run_done : {c' : RunCall} {drum' marks' out' row' : List ℕ} {x : Ran} {r : Ended}
       → is_state row ≡ true
       → c' ≡ c
       → RunRight (ran c') drum' marks' out' x
@@ -96,7 +96,7 @@ module _ (row : List ℕ) (c : RunCall) where
       → r ≡ ending_told x.ending x.count x.written
       → RunTold row (run_called row c) drum' marks' out' row' r
   unfolding run_called
-  run-done {c'} {drum'} {marks'} {out'} {row'} {x} {r} h e k w t =
+  run_done {c'} {drum'} {marks'} {out'} {row'} {x} {r} h e k w t =
       subst⁻¹ (λ (y : RunResult). RunTold row y drum' marks' out' row' r) (decided _ _ h ∙ ap ran (sym e))
       (record {
         told_is = t ∙ (λ i. ending_told (k.ending_is i) (k.count_is i) (k.written_is i));

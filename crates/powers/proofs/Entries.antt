@@ -9,7 +9,7 @@ use lib.Dec.{eqb}
 use lib.ListN.{length, get_or}
 use borrow.Author.Tests.{eqb-true}
 use Rattle.rules.specs.Words.{both}
-use Rattle.rules.proofs.Tests.{both_first, both-second}
+use Rattle.rules.proofs.Tests.{both_first, both_second}
 
 -- the entries are what the rule says, the first of them at the place i
 abbrev pub follows : (ℕ → ℕ) → ℕ → List ℕ → Bool
@@ -20,7 +20,7 @@ behind : (rule : ℕ → ℕ) (i : ℕ) (xs : List ℕ) → follows rule i xs �
 behind rule i [] t k h = absurd (not-suc-le-zero h)
 behind rule i (x ∷ xs) t zero h = eqb-true x (rule i) (both_first (eqb x (rule i)) _ t) ∙ ap rule (sym (add-zero i))
 behind rule i (x ∷ xs) t (suc k) h =
-    behind rule (suc i) xs (both-second (eqb x (rule i)) _ t) k (le_of_suc-le-suc h) ∙ ap rule (suc-add i k ∙ sym (add-suc i k))
+    behind rule (suc i) xs (both_second (eqb x (rule i)) _ t) k (le_of_suc-le-suc h) ∙ ap rule (suc-add i k ∙ sym (add-suc i k))
 
 pub entry : (rule : ℕ → ℕ) (xs : List ℕ) → follows rule 0 xs ≡ true → (k : ℕ) → k < length xs → get_or xs k 0 ≡ rule k
 entry rule xs t k h = behind rule 0 xs t k h ∙ ap rule (zero-add k)

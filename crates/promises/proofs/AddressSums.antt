@@ -40,7 +40,7 @@ use Rattle.rules.specs.declared.Judged.TheVariants.{Fits, Fails}
 use Rattle.rules.specs.declared.Outcome.{Outcome}
 use Rattle.rules.specs.declared.Outcome.TheVariants.{Undone}
 use Rattle.rules.specs.declared.Ending.TheVariants.{Ran}
-use Rattle.rules.proofs.Tests.{false-true}
+use Rattle.rules.proofs.Tests.{false_true}
 use Rattle.rules.proofs.Steps.{inputs_with, Performs, of_step}
 use Rattle.rules.proofs.RoomRuns.{run_on, run_ends, count_within}
 use Rattle.rules.proofs.Entered.{of_runs}
@@ -324,7 +324,7 @@ came_by true u b k x w c = came_carried u b k x w c
 came_by false u b k x w c = inl refl
 
 past_undone : (o : Outcome) → may_go_on o ≡ false → DoneOrPast o → completed o ≡ 0
-past_undone o u (inl g) = false-true (sym u ∙ g)
+past_undone o u (inl g) = false_true (sym u ∙ g)
 past_undone o u (inr g) = ap completed g
 
 pub wraps_as_carries : WrapsAsCarries
@@ -334,8 +334,8 @@ wraps_as_carries q c =
     (λ (r : Requests → RunResult).
     ((n : ℕ) → n < (r (without_carries q)).count → StaysWithin (behind (without_carries q) c n)) → r q ≡ r (without_carries q)) c (λ b h. refl)
     (λ e h. ap (ran_as c)
-    (run_same (inputs_by q c) false q.sums_carry (λ o. may_go_on o ≡ true) came_wrapped (λ o u g. false-true (sym u ∙ g)) c.budget (begun c) 0 (λ d l. h d (omega (arith, l)))
-    (λ o u p g. false-true (sym u ∙ g))))
+    (run_same (inputs_by q c) false q.sums_carry (λ o. may_go_on o ≡ true) came_wrapped (λ o u g. false_true (sym u ∙ g)) c.budget (begun c) 0 (λ d l. h d (omega (arith, l)))
+    (λ o u p g. false_true (sym u ∙ g))))
 
 pub carries_as_wraps : CarriesAsWraps
 unfolding ran_as
@@ -350,7 +350,7 @@ carries_as_wraps q c =
     (λ o u p g d l. subst (λ (n : ℕ). StaysWithin (behind q c n)) (sym (omega (arith, l))) (f (ap Ran (p ∙ ended o u g)))))))
   where
     ended : (o : Outcome) → may_go_on o ≡ false → DoneOrPast o → o ≡ Undone BadAddress
-    ended o u (inl g) = false-true (sym u ∙ g)
+    ended o u (inl g) = false_true (sym u ∙ g)
     ended o u (inr g) = g
 
 pub as_the_base : AsTheBase

@@ -11,7 +11,7 @@ use Rattle.rules.specs.declared.Switches.{Switches}
 use Rattle.rules.specs.declared.Outcome.{Outcome}
 use Rattle.rules.specs.declared.Outcome.TheVariants.{GoesOn}
 use Rattle.rules.specs.declared.Ending.TheVariants.{Ran}
-use Rattle.rules.proofs.Tests.{false-true}
+use Rattle.rules.proofs.Tests.{false_true}
 use Rattle.promises.specs.Undone.{AsBefore}
 use Rattle.promises.specs.Counting.{Comes, used_up, ended}
 use Rattle.promises.specs.Again.{following, again, MayGoOnLater, MetAgain, SameOrderNextRun}
@@ -66,7 +66,7 @@ same_order_next_run c o e t out budget switches = by_course (course c) refl (cou
     by_course : (x : Course) → course c ≡ x → Comes (inputs c) c.budget (begun c) x → MetAgain c o (again c out budget switches)
     by_course x q (used_up s g n) =
         let z : o ≡ GoesOn = same_outcome (sym e ∙ ran_outcome c h) ∙ ap (λ (y : Course). y.outcome) q ∙ g in
-        false-true (sym (ap tries_again z) ∙ t)
+        false_true (sym (ap tries_again z) ∙ t)
     by_course x q (ended k u l s g m f n) =
         let z : o ≡ x.outcome = same_outcome (sym e ∙ ran_outcome c h) ∙ ap (λ (y : Course). y.outcome) q in
         record {

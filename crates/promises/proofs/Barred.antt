@@ -21,7 +21,7 @@ use Rattle.rules.specs.declared.Bar.{Bar}
 use Rattle.rules.specs.declared.Bar.TheVariants.{BadDrum, BadDeck, BadState}
 use Rattle.rules.specs.declared.Ending.{Ending}
 use Rattle.rules.specs.declared.Ending.TheVariants.{Ran, NotRun}
-use Rattle.rules.proofs.Tests.{false-true}
+use Rattle.rules.proofs.Tests.{false_true}
 use Rattle.rules.proofs.RoomRuns.{NotFull}
 use Rattle.promises.specs.Rooms.{is_full, within}
 use Rattle.rules.proofs.Entered.{Entered}
@@ -43,21 +43,21 @@ bar_not_full (BadDeck f) = bad_deck_not_full f
 bar_not_full BadState = refl
 
 pub full_is : (e : Ending) → is_full e ≡ true → e ≡ Ran (Undone NoRoom)
-full_is (NotRun b) t = false-true (sym (bar_not_full b) ∙ t)
-full_is (Ran GoesOn) t = false-true t
-full_is (Ran (Stops Unconditional w)) t = false-true t
-full_is (Ran (Stops Conditional w)) t = false-true t
-full_is (Ran (Stops Lost w)) t = false-true t
-full_is (Ran (Undone BadAddress)) t = false-true t
-full_is (Ran (Undone Unmarked)) t = false-true t
+full_is (NotRun b) t = false_true (sym (bar_not_full b) ∙ t)
+full_is (Ran GoesOn) t = false_true t
+full_is (Ran (Stops Unconditional w)) t = false_true t
+full_is (Ran (Stops Conditional w)) t = false_true t
+full_is (Ran (Stops Lost w)) t = false_true t
+full_is (Ran (Undone BadAddress)) t = false_true t
+full_is (Ran (Undone Unmarked)) t = false_true t
 full_is (Ran (Undone NoRoom)) t = refl
-full_is (Ran (Undone NotBuilt)) t = false-true t
-full_is (Ran (Undone NotNumber)) t = false-true t
-full_is (Ran (Undone ZeroDivisor)) t = false-true t
-full_is (Ran (Undone NegativeRoot)) t = false-true t
-full_is (Ran (Undone OutOfRange)) t = false-true t
-full_is (Ran (Undone Unfit)) t = false-true t
-full_is (Ran (Undone NoCard)) t = false-true t
+full_is (Ran (Undone NotBuilt)) t = false_true t
+full_is (Ran (Undone NotNumber)) t = false_true t
+full_is (Ran (Undone ZeroDivisor)) t = false_true t
+full_is (Ran (Undone NegativeRoot)) t = false_true t
+full_is (Ran (Undone OutOfRange)) t = false_true t
+full_is (Ran (Undone Unfit)) t = false_true t
+full_is (Ran (Undone NoCard)) t = false_true t
 
 pub same_outcome : {o p : Outcome} → Ran o ≡ Ran p → o ≡ p
 same_outcome e = cc

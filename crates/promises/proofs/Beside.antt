@@ -22,7 +22,7 @@ use Rattle.rules.proofs.Tails.{Tail, good_tail}
 use Rattle.rules.proofs.Sound.{steady_from}
 use Rattle.rules.proofs.SoundOrders.{run_sound}
 use Rattle.rules.proofs.Rooms.{in_room, sent_before}
-use Rattle.rules.proofs.RoomRuns.{NotFull, course_behind, count_within, run_alike, run-left}
+use Rattle.rules.proofs.RoomRuns.{NotFull, course_behind, count_within, run_alike, run_left}
 use Rattle.promises.specs.Again.{again}
 use Rattle.promises.specs.Rooms.{is_full, Came, cards_of, came_to, joined, room_after_room}
 use Rattle.rules.proofs.Entered.{Entered, course, ran_course, begun_sound, left_sound}
@@ -121,7 +121,7 @@ module _ (c : RunCall) (h : Entered c) (g : is_full (ran c).ending ≡ true) (ou
     beside_left : beside c h p n r
         ≡ run_from (in_room r (inputs c)) (c.budget - (ran c).count) (sent_before p (course c).machine) k
     beside_left =
-        run-left p r (inputs c) n h.first tail_is c.budget (begun c) 0 (c.budget - (ran c).count) (begun_sound c h) course_full f
+        run_left p r (inputs c) n h.first tail_is c.budget (begun c) 0 (c.budget - (ran c).count) (begun_sound c h) course_full f
         (count_fits ∙ omega arith)
 
     begun_next : sent_before p (course c).machine ≡ sent_before q (begun next)

@@ -22,7 +22,7 @@ use Rattle.rules.specs.declared.Checked.TheVariants.{Passes}
 use Rattle.rules.specs.declared.Built.TheVariants.{As}
 use Rattle.rules.specs.declared.Class.TheVariants.{BlockMoved, Compared}
 use Rattle.rules.specs.declared.Operation.TheVariants.{MoveBlock, Compare}
-use Rattle.rules.proofs.Tests.{false-true}
+use Rattle.rules.proofs.Tests.{false_true}
 use Rattle.rules.proofs.BlockMoves.{stored_long, moved_there, moved_elsewhere, block_begins, block_ends, owned_each, owned_all}
 use Rattle.promises.specs.Next.{told}
 use Rattle.promises.specs.BlockMoves.{Lies, Moved, MovesBlock, BlockMoves, BlockMoveTold, digit_of, TestsAddress, AddressTests}
@@ -63,7 +63,7 @@ module _ (i : Inputs) (u : Machine) (n b c : ℕ) where
   move_foreign p q k l e = rw (lies_is b n p, lies_is c n q) (by_marks (owned_from u.cells b n) refl)
     where
       by_marks : (t : Bool) → owned_from u.cells b n ≡ t → allowed i u MoveBlock n b c (and_then (unless t Unmarked) Passes) ≡ undone Unmarked u
-      by_marks true g = false-true (sym (ap is_owned e) ∙ owned_each u.cells b n k g l)
+      by_marks true g = false_true (sym (ap is_owned e) ∙ owned_each u.cells b n k g l)
       by_marks false g = refl
 
   move_owned : Lies b n → Lies c n → ((k : ℕ) → k < n → cell_at u.cells (b + k) ≡ Owned (word_at u.cells (b + k)))

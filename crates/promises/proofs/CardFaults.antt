@@ -17,7 +17,7 @@ use Rattle.rules.specs.declared.Fault.TheVariants.{UnknownKind, CutShort, BadByt
 use Rattle.rules.specs.declared.Card.TheVariants.{Data, First, Bad}
 use Rattle.rules.proofs.Digits.{number_dropped}
 use Rattle.rules.proofs.Dues.{AllDue, bad_more, bad_here, none_bad}
-use Rattle.rules.proofs.ByKind.{OfKind, read_unknown, read_known, read-cut, read_byte, read-place, read_first, read_data}
+use Rattle.rules.proofs.ByKind.{OfKind, read_unknown, read_known, read_cut, read_byte, read_place, read_first, read_data}
 use Rattle.promises.specs.DeckFaults.{words_of, bytes_of, field_of, cells_of, byte_at, three_digits, Known, Whole, DueUpto, InRange}
 
 -- its location or first order stands behind the kind byte and within the card
@@ -82,7 +82,7 @@ module _ (deck : List ℕ) (p : ℕ) (here : p < length deck) where
     card_known = subst (OfKind (drop p deck)) (kind_left deck p) (read_known (drop p deck) some_left (rw (kind_left deck p) known))
 
     pub card_cut : length deck < p + bytes_of (byte_at deck p) → card_at deck p ≡ Bad CutShort 0
-    card_cut l = read-cut card_known (omega (arith, length-drop p deck))
+    card_cut l = read_cut card_known (omega (arith, length-drop p deck))
 
     module _ (whole : Whole deck p) where
       left : bytes_of (byte_at deck p) ≤ length (drop p deck)
@@ -107,7 +107,7 @@ module _ (deck : List ℕ) (p : ℕ) (here : p < length deck) where
         field_left = number_dropped deck p (field_of (byte_at deck p)) 3 ∙ three deck (p + field_of (byte_at deck p))
 
         pub card_place : (InRange deck p → ⊥) → card_at deck p ≡ Bad BadPlace (field_of (byte_at deck p))
-        card_place out = read-place card_known left none_left (omega arith) (rw field_left (unfit _ _ out))
+        card_place out = read_place card_known left none_left (omega arith) (rw field_left (unfit _ _ out))
 
         -- in range it is a first-order card or a data card, of its bytes
         module _ (range : InRange deck p) where

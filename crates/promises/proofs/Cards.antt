@@ -9,13 +9,13 @@ use lib.ListN.{length, get_or, length-append, get_or-append}
 use lib.Seq.{get_or_at}
 use borrow.Author.Tests.{ltb-true, ltb-false}
 use Rattle.rules.specs.Cards.{word_in, word_place}
-use Rattle.rules.proofs.CardTrips.{DataRead, data_is, data_read, data_written-read, data_written_words, data_read-written, first-is, first_read, first_written-read, first_read-written}
+use Rattle.rules.proofs.CardTrips.{DataRead, data_is, data_read, data_written_read, data_written_words, data_read_written, first_is, first_read, first_written_read, first_read_written}
 use Rattle.promises.specs.Cards.{words_of, DataReadBack, DataWrittenAgain, FirstReadBack, FirstWrittenAgain}
 
 pub data_read_back : DataReadBack
 data_read_back number location words problem rest a = (
   data_is _ number location (length words) problem _
-      (data_written-read number location words problem rest a.some a.few (omega (arith, a.numbered)) a.from (omega (arith, a.upto)) (omega (arith, a.posed))),
+      (data_written_read number location words problem rest a.some a.few (omega (arith, a.numbered)) a.from (omega (arith, a.upto)) (omega (arith, a.posed))),
   data_written_words number location words problem rest a.signed,
 )
 
@@ -43,13 +43,13 @@ shown d (suc n) i h = by_place (shown d n i) (ltb i n) refl
 pub data_written_again : DataWrittenAgain
 data_written_again d number location n problem size e =
     let l = length_of d n in
-    data_read-written d number location problem size (words_of d n)
+    data_read_written d number location problem size (words_of d n)
     (subst (λ (k : ℕ). DataRead d number location k problem size) (sym l) (data_read d number location n problem size e))
     (λ i h. shown d n i (omega (arith, l)))
 
 pub first_read_back : FirstReadBack
 first_read_back order problem rest from upto posed =
-    first-is _ order problem (first_written-read order problem rest from (omega arith) (omega arith))
+    first_is _ order problem (first_written_read order problem rest from (omega arith) (omega arith))
 
 pub first_written_again : FirstWrittenAgain
-first_written_again d order problem e = first_read-written d order problem (first_read d order problem e)
+first_written_again d order problem e = first_read_written d order problem (first_read d order problem e)

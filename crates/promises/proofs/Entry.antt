@@ -19,7 +19,7 @@ use Rattle.rules.specs.declared.Deck.TheVariants.{Good, Faulty}
 use Rattle.rules.specs.declared.Bar.{Bar}
 use Rattle.rules.specs.declared.Bar.TheVariants.{BadDrum, BadDeck, BadState}
 use Rattle.rules.specs.declared.Ending.TheVariants.{Ran, NotRun}
-use Rattle.rules.proofs.Views.{length-overlay, length_marks, view-again}
+use Rattle.rules.proofs.Views.{length-overlay, length_marks, view_again}
 use Rattle.rules.proofs.Sound.{marks_of_fit, words_fit_lem, steady_fits}
 use Rattle.rules.proofs.Entered.{Entered, course, ran_course, lent, left_sound}
 use Rattle.promises.specs.Again.{following}
@@ -52,7 +52,7 @@ entered c o e = by_fit (drum_fits (length c.drum) c.marks (view c.drum c.marks))
 module _ (c : RunCall) (h : Entered c) where
   -- what drum and marks show is what the cells are
   pub left_view : view (overlay c.drum (course c).machine.cells) (marks_of (course c).machine.cells) ≡ (course c).machine.cells
-  left_view = view-again c.drum (course c).machine.cells ((lent c h).drum_long ∙ sym (left_sound c h).cells.long)
+  left_view = view_again c.drum (course c).machine.cells ((lent c h).drum_long ∙ sym (left_sound c h).cells.long)
 
   following_entered : (out : List ℕ) (budget : ℕ) (switches : Switches) → budget ≤ 999999 → Entered (following c (ran_as c (course c)) out budget switches)
   unfolding ran_as drum_fits

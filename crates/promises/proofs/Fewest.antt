@@ -17,7 +17,7 @@ use Rattle.rules.specs.Making.{Block, blocks_in}
 use Rattle.rules.specs.declared.Cell.{Cell}
 use Rattle.rules.specs.declared.Card.{Card}
 use Rattle.rules.specs.declared.Card.TheVariants.{Data, First, Bad, End}
-use Rattle.rules.proofs.Tests.{both_first, both-second}
+use Rattle.rules.proofs.Tests.{both_first, both_second}
 use Rattle.rules.proofs.CardTrips.{data_read}
 use Rattle.rules.proofs.Decks.{piece}
 use Rattle.rules.proofs.Blocks.{all_ahead, starts_of, Each, each_none, each_more, each_as, Spread, spread_none, spread_more, Apart, Start, starts_marked, starts_apart}
@@ -76,7 +76,7 @@ module _ (v : List Cell) (b : Block) (few : b.cells ≤ 5)
       by_among true f rest =
           absurd
           (p b.location b.cells few owned l
-          (ltb-true t (b.location + b.cells) (both-second (leb b.location t) (ltb t (b.location + b.cells)) f)))
+          (ltb-true t (b.location + b.cells) (both_second (leb b.location t) (ltb t (b.location + b.cells)) f)))
       by_among false f rest = ap suc rest
 
   one_at_most : {ss : List ℕ} → Spread v ss → length ss ≤ suc (length (without b ss))
@@ -101,7 +101,7 @@ covered v (b ∷ bs) bear owned apart on =
     let own : (x : ℕ) → b.location ≤ x → x < b.location + b.cells → owned_at v x ≡ true =
     λ x i l. owned x (omega (arith, h.from)) (omega (arith, times_there b bs x i l)) in
     let rest =
-    covered v bs (both-second (may_bear b) (all_may_bear bs) bear) (λ x i l. owned x i (omega arith)) (spread_without b apart)
+    covered v bs (both_second (may_bear b) (all_may_bear bs) bear) (λ x i l. owned x i (omega arith)) (spread_without b apart)
     (left_over b bs on) in
     omega (arith, one_at_most v b h.few own apart)
 

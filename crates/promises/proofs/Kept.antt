@@ -15,7 +15,7 @@ use Rattle.rules.specs.declared.Deck.{Deck}
 use Rattle.rules.specs.declared.Deck.TheVariants.{Good, Faulty}
 use Rattle.rules.specs.declared.State.{State}
 use Rattle.rules.specs.declared.Switches.{Switches}
-use Rattle.rules.proofs.Views.{length-overlay, Fit, fit, marks_again, Grows, store_grows, overlay-kept}
+use Rattle.rules.proofs.Views.{length-overlay, Fit, fit, marks_again, Grows, store_grows, overlay_kept}
 use Rattle.rules.proofs.Growth.{cards_grow, run_grows}
 use Rattle.promises.specs.Calls.{Call, load, run, make, load_of, run_of, start_of, Told, Called, called, after_load, after_run, history}
 use Rattle.promises.specs.Foreign.{ForeignKept, LengthKept}
@@ -35,7 +35,7 @@ laid_over drum marks v t f g e =
     record {
       cell_kept = λ i z.
           let u : get_or (marks_of v) i 0 ≡ 0 = ap (λ (ms : List ℕ). get_or ms i 0) (sym e) ∙ z in
-          (ap (λ (ms : List ℕ). get_or ms i 0) (sym (marks_again drum marks f)) ∙ g i u, overlay-kept drum v i u);
+          (ap (λ (ms : List ℕ). get_or ms i 0) (sym (marks_again drum marks f)) ∙ g i u, overlay_kept drum v i u);
       long_kept = length-overlay drum v;
     }
 

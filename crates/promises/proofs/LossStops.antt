@@ -14,7 +14,7 @@ use Rattle.rules.specs.declared.Switches.{Switches}
 use Rattle.rules.specs.declared.Stop.TheVariants.{Lost}
 use Rattle.rules.specs.declared.Outcome.TheVariants.{Stops}
 use Rattle.rules.specs.declared.Ending.TheVariants.{Ran}
-use Rattle.rules.proofs.Tests.{false-true, both-second}
+use Rattle.rules.proofs.Tests.{false_true, both_second}
 use Rattle.rules.proofs.Entered.{Entered, course, course_by, of_runs, ran_course, ran_course_by, ran_count, budget_small}
 use Rattle.rules.proofs.Steps.{inputs_with}
 use Rattle.rules.proofs.LossStops.{step_eased, some_cells, went_on, run_same, run_stopped}
@@ -35,7 +35,7 @@ never_on_run i n = by_request i.requests.loss_stops
 
 pub loss_stop_leaves_result : LossStopLeavesResult
 loss_stop_leaves_result i m w e =
-    let r = (step_eased i run i.requests (never_on_run i) false-true refl m).stopped w e in
+    let r = (step_eased i run i.requests (never_on_run i) false_true refl m).stopped w e in
     record { on_stop = r.on_stop_lem; leaves = r.leaves; shown = r.first (some_cells i m w e); following = r.following }
 
 -- ---- calls
@@ -56,7 +56,7 @@ fewer_entered c h n s l =
       order = h.order;
       problem = h.problem;
       deck_good = h.deck_good;
-      state_fits_lem = rw (le-leb n 999999 (omega (arith, budget_small c h, l))) (both-second (leb c.budget 999999) _ h.state_fits_lem);
+      state_fits_lem = rw (le-leb n 999999 (omega (arith, budget_small c h, l))) (both_second (leb c.budget 999999) _ h.state_fits_lem);
     }
 
 -- a run that 03 ended, and the same call for as many orders where no loss stops it
@@ -81,8 +81,8 @@ module _ (c : RunCall) (w : ℕ) (e : (ran c).ending ≡ Ran (Stops Lost w)) (s 
       ran_course_by q as_many (fewer_entered c h (ran c).count s (ran_count c)) ∙ ap (ran_as as_many) stopped.1 ∙ ap with_budget_used (sym (ran_course c h))
 
 pub on_run_as_before : OnRunAsBefore
-on_run_as_before c t = on_stop_as_before c (λ w e. false-true (sym t ∙ (stopped c w e c.switches (without_loss_stops present) (λ n. refl) (λ e. e) refl).0))
+on_run_as_before c t = on_stop_as_before c (λ w e. false_true (sym t ∙ (stopped c w e c.switches (without_loss_stops present) (λ n. refl) (λ e. e) refl).0))
 
 pub loss_stop_only_stops : LossStopOnlyStops
 loss_stop_only_stops c w e =
-    (goes_on c w e run present (λ n. refl) false-true refl, goes_on c w e c.switches (without_loss_stops present) (λ n. refl) (λ e. e) refl)
+    (goes_on c w e run present (λ n. refl) false_true refl, goes_on c w e c.switches (without_loss_stops present) (λ n. refl) (λ e. e) refl)

@@ -20,11 +20,11 @@ use Rattle.rules.specs.declared.State.{State}
 use Rattle.rules.specs.declared.Deck.TheVariants.{Good}
 use Rattle.rules.specs.declared.Making.{Making}
 use Rattle.rules.specs.declared.Making.TheVariants.{Made, UnfitDrum, UnfitNumber, Full}
-use Rattle.rules.proofs.Views.{length-overlay, Fit, fit, length-view, length_marks, marks_again, view-again}
+use Rattle.rules.proofs.Views.{length-overlay, Fit, fit, length-view, length_marks, marks_again, view_again}
 use Rattle.rules.proofs.Sound.{all_words, words_fit_lem, marks_of_fit}
 use Rattle.rules.proofs.MadeSizes.{made_short}
 use Rattle.rules.proofs.MadeCells.{AllBear, no_card, one_card, Given, given_back, cell_at_lem, mark_at, number_at}
-use Rattle.rules.proofs.MadeDecks.{deck_good, deck_bears, in-range}
+use Rattle.rules.proofs.MadeDecks.{deck_good, deck_bears, in_range_lem}
 use Rattle.promises.specs.Calls.{load_of, make_of}
 use Rattle.promises.specs.Making.{block_of, HasThese, Restored, MadeIsGood, LoadsTheSame, MadeAlike, SameDeckAgain, RefusedMakeWritesNothing, MadePastUntouched, longest_made, RoomEnough}
 use Rattle.promises.proofs.SameDecks.{deck_same}
@@ -50,7 +50,7 @@ record Passed (c : MakeCall) : Type 0 where
 passed : (c : MakeCall) → drum_fits (length c.drum) c.marks (cells_of c) ≡ true → numbers_fit c.order c.problem ≡ true
     → leb (length (deck_for c)) (length c.out) ≡ true → Passed c
 passed c d n r =
-    let k = in-range c.order c.problem n in
+    let k = in_range_lem c.order c.problem n in
     record {
       lent = fit c.drum c.marks d;
       from = k.0;
@@ -208,7 +208,7 @@ module _ (c : MakeCall) (n : ℕ) (h : Done c n (made c)) (drum marks : List ℕ
   shows_word (suc a) = omega (arith, ap shown (given.others (suc a) (omega arith)), all_words (cells_of c) h.checks.lent.words_fit_lem (suc a))
 
   seen_again : view (overlay drum cells) (marks_of cells) ≡ cells
-  seen_again = view-again drum cells (there.drum_long ∙ sym given.long)
+  seen_again = view_again drum cells (there.drum_long ∙ sym given.long)
 
   fits_again : drum_fits (length (overlay drum cells)) (marks_of cells) (view (overlay drum cells) (marks_of cells)) ≡ true
   unfolding drum_fits

@@ -18,7 +18,7 @@ use Rattle.rules.specs.declared.Reckoned.TheVariants.{Result, Refused}
 use Rattle.rules.specs.declared.Refusal.TheVariants.{ZeroDivisor, NegativeRoot}
 use Rattle.rules.proofs.Nearest.{ten_above, ten_rises}
 use Rattle.rules.proofs.Rounding.{settled_none}
-use Rattle.rules.proofs.Sums.{sum_same, sum_first, sum-second}
+use Rattle.rules.proofs.Sums.{sum_same, sum_first, sum_second}
 use Rattle.rules.proofs.Words.{number_full, number_leading, number_word, root_room}
 use Rattle.promises.specs.Rounding.{of_fraction, of_root, RoundedTo, Rounds}
 use Rattle.promises.specs.Reckoning.{WordDue, Taken, Answers, Numbers, worth, above, below, sign_left, left, up, down, summing, product, AllReckoned, adding, subtracting, multiplying, multiplying_negatively, dividing, taking_root, taking_magnitude}
@@ -48,7 +48,7 @@ two_signs s x t y p q differ i j = either (dec_le y x)
     either (yes l) = record { r = s; p = x - y; bit = p; exact = i l; rounded = sum_first single s x t y differ l }
     either (no g) =
         let l : x < y = lt_of_not-le g in
-        record { r = t; p = y - x; bit = q; exact = j l; rounded = sum-second single s x t y differ l }
+        record { r = t; p = y - x; bit = q; exact = j l; rounded = sum_second single s x t y differ l }
 
 sum_rounded : (s x t y : ℕ) → s ≤ 1 → t ≤ 1 → SumRounded s x t y
 sum_rounded zero x zero y l g = one_sign 0 x y l (omega arith)

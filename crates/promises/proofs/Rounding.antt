@@ -7,9 +7,9 @@ use native.Mathlib.Omega.{arith}
 use lib.Pow.{pow-add}
 use Rattle.rules.specs.Rounding.{Form, nought, value, outside, nearest, placed, settled, fraction, root_halves}
 use Rattle.rules.specs.Rounded.{Rounded, RootCut}
-use Rattle.rules.proofs.Nearest.{ten_above, ten_rises, nearest_reached, nearest-not_passed, nearest_is, Right, one_place, some_right}
+use Rattle.rules.proofs.Nearest.{ten_above, ten_rises, nearest_reached, nearest_not_passed, nearest_is, Right, one_place, some_right}
 use Rattle.rules.proofs.Rounded.{filled, tenth_filled, rounded_first, right_rounded}
-use Rattle.rules.proofs.Rounding.{placed-within, placed_below, placed-above, settled_none, settled-zero, settled_at, Answer, answered}
+use Rattle.rules.proofs.Rounding.{placed_within, placed_below, placed_above, settled_none, settled_zero, settled_at, Answer, answered}
 use Rattle.rules.proofs.Roots.{no_larger, root_below_lem}
 use Rattle.promises.specs.Rounding.{Magnitude, of_fraction, of_root, RoundedTo, Number, Somewhere, Rounds, FractionRounds, RootRounds, RootNeverHalf}
 
@@ -98,7 +98,7 @@ module _ (f : Form) (some : 0 < f.digits) (x : Magnitude) (h : ℕ) (w : Halves 
             rounded =
                 record {
                   at_least = w.reach (2 * (m * 10 ^ 0) - 10 ^ 0) low;
-                  below = λ y. omega (arith, w.reached (2 * (m * 10 ^ 0) + 10 ^ 0) y, nearest-not_passed h 0);
+                  below = λ y. omega (arith, w.reached (2 * (m * 10 ^ 0) + 10 ^ 0) y, nearest_not_passed h 0);
                   fits = r.enough;
                   full = subst (x 10) (omega arith) large;
                 };
@@ -121,7 +121,7 @@ module _ (f : Form) (some : 0 < f.digits) (x : Magnitude) (h : ℕ) (w : Halves 
               absurd (few (w.less v (10 * v) (omega arith) (w.tenfold v (w.reach v g))))
 
       judged : Dec (f.exponents ≤ 0) → placed f s (nearest h 0) 0 ≡ outside
-      judged (yes l) = placed-above f s (nearest h 0) 0 (omega arith)
+      judged (yes l) = placed_above f s (nearest h 0) 0 (omega arith)
       judged (no g) = placed_below f s (nearest h 0) 0 (lt_of_not-le g)
 
   none : (s : ℕ) → (x 1 1 → ⊥) → settled f s h ≡ nought
@@ -140,12 +140,12 @@ module _ (f : Form) (some : 0 < f.digits) (x : Magnitude) (h : ℕ) (w : Halves 
             λ e m c n r q.
             let i : e ≡ c = one_place f.digits h e c (is_right e m r) (is_right c n q) in
             (i, sym (is_nearest e m r) ∙ ap (nearest h) i ∙ is_nearest c n q);
-        within = λ s e m r l g. settles e m r s ∙ placed-within f s m e l g;
+        within = λ s e m r l g. settles e m r s ∙ placed_within f s m e l g;
         under = λ s e m r l. settles e m r s ∙ placed_below f s m e l;
-        over = λ s e m r l. settles e m r s ∙ placed-above f s m e l;
+        over = λ s e m r l. settles e m r s ∙ placed_above f s m e l;
         small = small;
         none = none;
-        zero = λ s i y. settled-zero f s h i (w.reached 1 y);
+        zero = λ s i y. settled_zero f s h i (w.reached 1 y);
       }
 
 pub fraction_rounds : FractionRounds

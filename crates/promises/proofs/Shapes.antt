@@ -15,7 +15,7 @@ use Rattle.rules.specs.Codes.{owned_at}
 use Rattle.rules.specs.Making.{Block}
 use Rattle.rules.specs.declared.Cell.{Cell}
 use Rattle.rules.specs.declared.Cell.TheVariants.{Foreign, Owned}
-use Rattle.rules.proofs.Tests.{both_first, both-second}
+use Rattle.rules.proofs.Tests.{both_first, both_second}
 use Rattle.rules.proofs.Blocks.{owned_is, foreign_is, Run, run_inside, one_run, Cut, no_steps, passes, takes, all_ahead}
 use Rattle.promises.specs.Making.{may_bear, all_may_bear, times, EachOnce, is_whole, in_order, RestLast, OnlyThese}
 
@@ -49,12 +49,12 @@ borne b e =
     let sizes : Bool = both (leb 1 b.cells) (leb b.cells 5) in
     let fits : Bool = cells_fit b.location b.cells in
     let s = both_first sizes fits e in
-    let f = both-second sizes fits e in
+    let f = both_second sizes fits e in
     record {
       some = leb-true 1 b.cells (both_first (leb 1 b.cells) (leb b.cells 5) s);
-      few = leb-true b.cells 5 (both-second (leb 1 b.cells) (leb b.cells 5) s);
+      few = leb-true b.cells 5 (both_second (leb 1 b.cells) (leb b.cells 5) s);
       from = leb-true 1 b.location (both_first (leb 1 b.location) (leb (b.location + b.cells) 1000) f);
-      upto = leb-true (b.location + b.cells) 1000 (both-second (leb 1 b.location) (leb (b.location + b.cells) 1000) f);
+      upto = leb-true (b.location + b.cells) 1000 (both_second (leb 1 b.location) (leb (b.location + b.cells) 1000) f);
     }
 
 -- ---- how many cards are for a cell
@@ -81,9 +81,9 @@ unfolding in_order
 ascend v a [] e = no_more
 ascend v a (b ∷ bs) e =
     let rest : Bool = in_order v (b.location + b.cells) bs in
-    let f = both-second (leb a b.location) (both (is_whole v b) rest) e in
+    let f = both_second (leb a b.location) (both (is_whole v b) rest) e in
     and_then (leb-true a b.location (both_first (leb a b.location) (both (is_whole v b) rest) e)) (both_first (is_whole v b) rest f)
-    (ascend v (b.location + b.cells) bs (both-second (is_whole v b) rest f))
+    (ascend v (b.location + b.cells) bs (both_second (is_whole v b) rest f))
 
 in_order_lem : {v : List Cell} {a : ℕ} {bs : List Block} → Ascend v a bs → in_order v a bs ≡ true
 unfolding in_order
@@ -208,7 +208,7 @@ are_these {v} (takes {a = a} {n = n} s h c) l (and_then {b = b} {bs = bs} i w r)
     run_is v b m.few w (λ x j g. marked_owned (cell_at v x) (omega (arith, just x (omega arith), times_there b bs x j g))) in
     let size : b.cells ≡ n = one_run run (subst (λ (x : ℕ). Run v x n 5) (sym at) h) in
     let rest : bs ≡ _ =
-    are_these c (omega arith) (subst (λ (x : ℕ). Ascend v x bs) (omega arith) r) (both-second (may_bear b) (all_may_bear bs) bear)
+    are_these c (omega arith) (subst (λ (x : ℕ). Ascend v x bs) (omega arith) r) (both_second (may_bear b) (all_may_bear bs) bear)
     (λ x j. sym (times_behind b bs x (omega arith)) ∙ just x (omega arith)) in
     ap₂ (λ (x : Block) (xs : List Block). x ∷ xs) (ap₂ (λ (x j : ℕ). record { location = x; cells = j }) at size) rest
 

@@ -16,7 +16,7 @@ use Rattle.rules.specs.Codes.{block_lies, owned_at, owned_from}
 use Rattle.rules.specs.Orders.{words_from, stored_from, cells_moved}
 use Rattle.rules.specs.declared.Cell.{Cell}
 use Rattle.rules.specs.declared.Cell.TheVariants.{Foreign, Owned}
-use Rattle.rules.proofs.Tests.{both_first, both-second}
+use Rattle.rules.proofs.Tests.{both_first, both_second}
 use Rattle.rules.proofs.Views.{Grows, store_grows}
 use Rattle.rules.proofs.Sound.{Cells, cells_stored}
 use Rattle.rules.proofs.Punching.{words_long}
@@ -126,7 +126,7 @@ block_begins b n e = leb-true 1 b (both_first (leb 1 b) (leb (b + n - 1) 999) e)
 
 pub block_ends : (b n : ℕ) → block_lies b n ≡ true → b + n ≤ 1000
 block_ends b n e =
-    let g : b + n - 1 ≤ 999 = leb-true (b + n - 1) 999 (both-second (leb 1 b) (leb (b + n - 1) 999) e) in
+    let g : b + n - 1 ≤ 999 = leb-true (b + n - 1) 999 (both_second (leb 1 b) (leb (b + n - 1) 999) e) in
     omega (arith, block_begins b n e)
 
 pub owned_each : (v : List Cell) (b n k : ℕ) → owned_from v b n ≡ true → k < n → owned_at v (b + k) ≡ true
@@ -136,7 +136,7 @@ owned_each v b (suc n) k e l =
     by_last (eqb k n) refl (owned_each v b n k (both_first (owned_from v b n) (owned_at v (b + n)) e))
   where
     by_last : (t : Bool) → eqb k n ≡ t → (k < n → owned_at v (b + k) ≡ true) → owned_at v (b + k) ≡ true
-    by_last true f g = rw (eqb-true k n f) (both-second (owned_from v b n) (owned_at v (b + n)) e)
+    by_last true f g = rw (eqb-true k n f) (both_second (owned_from v b n) (owned_at v (b + n)) e)
     by_last false f g = let q = eqb-false k n f in g (omega arith)
 
 pub owned_all : (v : List Cell) (b n : ℕ) → ((k : ℕ) → k < n → owned_at v (b + k) ≡ true) → owned_from v b n ≡ true

@@ -14,17 +14,17 @@ use Rattle.rules.specs.Codes.{owned_at}
 use Rattle.rules.specs.Making.{neighbours, Block, blocks_from, blocks_in}
 use Rattle.rules.specs.declared.Cell.{Cell}
 use Rattle.rules.specs.declared.Cell.TheVariants.{Foreign, Owned}
-use Rattle.rules.proofs.Tests.{false-true}
+use Rattle.rules.proofs.Tests.{false_true}
 
 -- ---- marked and unmarked
 
 pub owned_is : (c : Cell) → is_owned c ≡ true → Owned (shown c) ≡ c
-owned_is Foreign e = false-true e
+owned_is Foreign e = false_true e
 owned_is (Owned w) e = refl
 
 pub foreign_is : (c : Cell) → is_owned c ≡ false → c ≡ Foreign
 foreign_is Foreign e = refl
-foreign_is (Owned w) e = false-true (sym e)
+foreign_is (Owned w) e = false_true (sym e)
 
 -- no cell behind the last is marked
 pub owned_inside : (v : List Cell) (x : ℕ) → owned_at v x ≡ true → x < length v
@@ -32,7 +32,7 @@ owned_inside v x e = by_place (ltb x (length v)) refl
   where
     by_place : (t : Bool) → ltb x (length v) ≡ t → x < length v
     by_place true f = ltb-true x (length v) f
-    by_place false f = false-true (sym (ap is_owned (get_or-eq_default v Foreign (ltb-false x (length v) f))) ∙ e)
+    by_place false f = false_true (sym (ap is_owned (get_or-eq_default v Foreign (ltb-false x (length v) f))) ∙ e)
 
 -- ---- neighbours
 
@@ -52,7 +52,7 @@ no_longer {v} {a} {n} {m} r q = by_end (ltb n m) refl
     by_end : (t : Bool) → ltb n m ≡ t → m ≤ n
     by_end true f =
         let l = ltb-true n m f in
-        false-true (sym (r.ends (omega (arith, q.few))) ∙ q.owned (a + n) (omega arith) (omega arith))
+        false_true (sym (r.ends (omega (arith, q.few))) ∙ q.owned (a + n) (omega arith) (omega arith))
     by_end false f = ltb-false n m f
 
 pub one_run : {v : List Cell} {a n m most : ℕ} → Run v a n most → Run v a m most → n ≡ m
@@ -161,7 +161,7 @@ apart_behind : {v : List Cell} {a n : ℕ} → Run v a n 5 → (t : ℕ) → a +
 apart_behind {v} {a} {n} r t h l m few owned from upto = by_few (ltb n 5) refl
   where
     by_few : (u : Bool) → ltb n 5 ≡ u → ⊥
-    by_few true f = false-true (sym (r.ends (ltb-true n 5 f)) ∙ owned (a + n) (omega arith) (omega arith))
+    by_few true f = false_true (sym (r.ends (ltb-true n 5 f)) ∙ owned (a + n) (omega arith) (omega arith))
     by_few false f = let g = ltb-false n 5 f in omega arith
 
 pub starts_apart : {v : List Cell} {k a : ℕ} {bs : List Block} → Cut v k a bs → Spread v (starts_of bs)

@@ -13,7 +13,7 @@ use Rattle.rules.specs.Cards.{zero_byte, first_kind, word_place, data_size, firs
 use Rattle.rules.specs.declared.Fault.TheVariants.{UnknownKind, CutShort, BadByte, BadPlace}
 use Rattle.rules.specs.declared.Card.{Card}
 use Rattle.rules.specs.declared.Card.TheVariants.{Data, First, Bad}
-use Rattle.rules.proofs.Tests.{both-second}
+use Rattle.rules.proofs.Tests.{both_second}
 
 -- ---- a card by its kind byte
 
@@ -45,16 +45,16 @@ pub record Formed (d : List ℕ) (first : Bool) (n size field cells : ℕ) : Typ
 
 -- each test on the way
 module _ {d : List ℕ} {first : Bool} {n size field cells : ℕ} (h : Formed d first n size field cells) where
-  pub read-cut : length d < size → card_of d ≡ Bad CutShort 0
-  read-cut l = h.is ∙ simp (lt-ltb (length d) size l)
+  pub read_cut : length d < size → card_of d ≡ Bad CutShort 0
+  read_cut l = h.is ∙ simp (lt-ltb (length d) size l)
 
   module _ (whole : size ≤ length d) {o : ℕ} (e : bad_from n d 1 (size - 1) ≡ o) where
     pub read_byte : o < size → card_of d ≡ Bad BadByte o
     read_byte l = h.is ∙ simp (le-ltb (length d) size whole, e, lt-ltb o size l)
 
     module _ (due : size ≤ o) where
-      pub read-place : cells_fit (number_in d field 3) cells ≡ false → card_of d ≡ Bad BadPlace field
-      read-place t = h.is ∙ simp (le-ltb (length d) size whole, e, le-ltb o size due, t)
+      pub read_place : cells_fit (number_in d field 3) cells ≡ false → card_of d ≡ Bad BadPlace field
+      read_place t = h.is ∙ simp (le-ltb (length d) size whole, e, le-ltb o size due, t)
 
       module _ (t : cells_fit (number_in d field 3) cells ≡ true) where
         read_good : card_of d ≡ card_in d first n size field
@@ -79,7 +79,7 @@ read_known (k ∷ t) l h = by_kind (is_data_kind k) refl (eqb k first_kind) refl
   where
     by_kind : (s : Bool) → is_data_kind k ≡ s → (f : Bool) → eqb k first_kind ≡ f → OfKind (k ∷ t) k
     by_kind true e f g =
-        let u = leb-true k 53 (both-second (leb 49 k) (leb k 53) e) in
+        let u = leb-true k 53 (both_second (leb 49 k) (leb k 53) e) in
         record { is = rw (e, ne_eqb k 84 (λ z. omega arith)) }
     by_kind false e true g = record { is = rw (e, g) }
     by_kind false e false g = absurd (let z : 1 ≤ 0 = rw (e, g) at h in omega arith)

@@ -12,7 +12,7 @@ use Rattle.rules.specs.Words.{pick}
 use Rattle.rules.specs.Cards.{digits, words_bytes, data_card, first_card, number_in, bad_from, cells_fit, is_data_kind, data_of, first_of, card_of}
 use Rattle.rules.specs.declared.Fault.{Fault}
 use Rattle.rules.specs.declared.Card.TheVariants.{Data, First, Bad}
-use Rattle.rules.proofs.Tests.{both_first, both-second}
+use Rattle.rules.proofs.Tests.{both_first, both_second}
 use Rattle.rules.proofs.Digits.{digits_join, length_digits, AllDigits, number_read, number_written}
 use Rattle.rules.proofs.Fields.{length_data, length_first, length_words, behind, digits_there, words_there, words_read, words_written, AllWords, AreAt}
 use Rattle.rules.proofs.Dues.{none_bad, all_due, front_due, due_front, Fields, fields_due, due_fields}
@@ -114,12 +114,12 @@ data_of_lem k t m number location n problem size g q e =
     let e₂ = pick_else (ltb (bad_from m d 1 (11 + 11 * m - 1)) (11 + 11 * m)) _ _ _ bad_data e₁.1 in
     let e₃ = pick_then (cells_fit (number_in d 5 3) m) _ _ _ bad_data e₂.1 in
     let lowest = both_first (leb 1 (number_in d 5 3)) (leb (number_in d 5 3 + m) 1000) e₃.0 in
-    let highest = both-second (leb 1 (number_in d 5 3)) (leb (number_in d 5 3 + m) 1000) e₃.0 in
+    let highest = both_second (leb 1 (number_in d 5 3)) (leb (number_in d 5 3 + m) 1000) e₃.0 in
     let same : m ≡ n = data_words e₃.1 in
     let whole : 11 + 11 * m ≤ length d = ltb-false (length d) (11 + 11 * m) e₁.0 in
     let good : 1 + (11 + 11 * m - 1) ≤ bad_from m d 1 (11 + 11 * m - 1) = omega (arith, ltb-false (bad_from m d 1 (11 + 11 * m - 1)) (11 + 11 * m) e₂.0) in
     let low : 49 ≤ k = leb-true 49 k (both_first (leb 49 k) (leb k 53) g) in
-    let high : k ≤ 53 = leb-true k 53 (both-second (leb 49 k) (leb k 53) g) in
+    let high : k ≤ 53 = leb-true k 53 (both_second (leb 49 k) (leb k 53) g) in
     record {
       some = omega arith;
       few = omega arith;
@@ -172,10 +172,10 @@ module _ (number location : ℕ) (ws : List ℕ) (problem : ℕ) (rest : List �
     back = λ o i l. digits_there data_bytes rest (8 + 11 * length ws) 3 problem problem_place o i (omega arith);
   }
 
-  pub data_written-read : 1 ≤ length ws → length ws ≤ 5 → number < 10000 → 1 ≤ location → location + length ws ≤ 1000 → problem < 1000
+  pub data_written_read : 1 ≤ length ws → length ws ≤ 5 → number < 10000 → 1 ≤ location → location + length ws ≤ 1000 → problem < 1000
       → DataRead data_bytes number location (length ws) problem (11 + 11 * length ws)
   unfolding data_card
-  data_written-read some few small from upto short = record {
+  data_written_read some few small from upto short = record {
     some = some;
     few = few;
     kind = refl;
@@ -193,12 +193,12 @@ module _ (number location : ℕ) (ws : List ℕ) (problem : ℕ) (rest : List �
   data_written_words = words_read data_bytes _ 8 ws words_place
 
 -- bytes that are read as a data card are written again as they were
-pub data_read-written : (d : List ℕ) (number location problem size : ℕ) (ws : List ℕ) → DataRead d number location (length ws) problem size
+pub data_read_written : (d : List ℕ) (number location problem size : ℕ) (ws : List ℕ) → DataRead d number location (length ws) problem size
     → AreAt d 8 ws
     → data_card number location ws problem ≡ take size d
 unfolding data_card
-data_read-written [] number location problem size ws r e = absurd (let z : ⊥ = omega (arith, r.whole, r.long) in z)
-data_read-written (k ∷ t) number location problem size ws r e =
+data_read_written [] number location problem size ws r e = absurd (let z : ⊥ = omega (arith, r.whole, r.long) in z)
+data_read_written (k ∷ t) number location problem size ws r e =
     let d : List ℕ = k ∷ t in
     let n : ℕ = length ws in
     let whole : 11 + 11 * n ≤ length d = omega (arith, r.whole, r.long) in
@@ -225,10 +225,10 @@ pub record FirstRead (d : List ℕ) (order problem : ℕ) : Type 0 where
   pub ordered : number_in d 1 3 ≡ order
   pub posed : number_in d 4 3 ≡ problem
 
-pub first-is : (d : List ℕ) (order problem : ℕ) → FirstRead d order problem → card_of d ≡ First order problem
+pub first_is : (d : List ℕ) (order problem : ℕ) → FirstRead d order problem → card_of d ≡ First order problem
 unfolding card_of first_of
-first-is [] order problem r = absurd (let z : ⊥ = omega arith in z)
-first-is (k ∷ t) order problem r =
+first_is [] order problem r = absurd (let z : ⊥ = omega arith in z)
+first_is (k ∷ t) order problem r =
     let d : List ℕ = k ∷ t in
     let b : bad_from 0 d 1 6 ≡ 7 = none_bad 0 d 1 6 (front_due 0 d 7 (omega arith) r.figures) in
     simp (
@@ -263,7 +263,7 @@ first_read (k ∷ t) order problem e =
     let e₃ = pick_else (ltb (bad_from 0 d 1 6) 7) _ _ _ bad_first e₂.1 in
     let e₄ = pick_then (cells_fit (number_in d 1 3) 1) _ _ _ bad_first e₃.1 in
     let lowest = both_first (leb 1 (number_in d 1 3)) (leb (number_in d 1 3 + 1) 1000) e₄.0 in
-    let highest = both-second (leb 1 (number_in d 1 3)) (leb (number_in d 1 3 + 1) 1000) e₄.0 in
+    let highest = both_second (leb 1 (number_in d 1 3)) (leb (number_in d 1 3 + 1) 1000) e₄.0 in
     let same : number_in d 1 3 ≡ order = cc e₄.1 in
     record {
       kind = eqb-true k 84 e₁.0;
@@ -286,9 +286,9 @@ module _ (order problem : ℕ) (rest : List ℕ) where
   posed_place : drop 4 first_bytes ≡ digits 3 problem ++ rest
   posed_place = behind first_bytes (digits 3 order) _ 1 3 4 order_place (length_digits 3 order) refl
 
-  pub first_written-read : 1 ≤ order → order < 1000 → problem < 1000 → FirstRead first_bytes order problem
+  pub first_written_read : 1 ≤ order → order < 1000 → problem < 1000 → FirstRead first_bytes order problem
   unfolding first_card
-  first_written-read from upto short = record {
+  first_written_read from upto short = record {
     kind = refl;
     whole = omega (arith, length-append (first_card order problem) rest, length_first order problem);
     figures = digits_join first_bytes 1 4 7 (digits_there first_bytes _ 1 3 order order_place) (digits_there first_bytes _ 4 3 problem posed_place);
@@ -298,10 +298,10 @@ module _ (order problem : ℕ) (rest : List ℕ) where
     posed = number_read first_bytes _ 4 3 problem posed_place short;
   }
 
-pub first_read-written : (d : List ℕ) (order problem : ℕ) → FirstRead d order problem → first_card order problem ≡ take 7 d
+pub first_read_written : (d : List ℕ) (order problem : ℕ) → FirstRead d order problem → first_card order problem ≡ take 7 d
 unfolding first_card
-first_read-written [] order problem r = absurd (let z : ⊥ = omega arith in z)
-first_read-written (k ∷ t) order problem r =
+first_read_written [] order problem r = absurd (let z : ⊥ = omega arith in z)
+first_read_written (k ∷ t) order problem r =
     let d : List ℕ = k ∷ t in
     let one : 84 ∷ digits 3 order ≡ take 4 d =
     ap₂ (λ (b : ℕ) (l : List ℕ). b ∷ l) (sym r.kind)

@@ -50,8 +50,8 @@ pub record AddressesAdded : Type 0 where
   pub b_to_o1 : Makes 0060002001 3999999007 4000000007
   pub a_to_o1 : Makes 0600002001 8999002003 9000002003
   -- C 000, and C 999
-  pub by-000 : Makes 0006002000 9999999999 9999999999
-  pub by-999 : Makes 0600002999 0001002003 1000002003
+  pub by_000 : Makes 0006002000 9999999999 9999999999
+  pub by_999 : Makes 0600002999 0001002003 1000002003
   -- the largest ten digits, and one more
   pub largest : Makes 0006002001 9999999998 9999999999
   pub past_c : Refuses 0006002001 9999999999 20
@@ -78,8 +78,8 @@ pub record AddressesTaken : Type 0 where
   pub b_from_a : Makes 0070002001 0002000007 0001999007
   pub b_from_o1 : Makes 0070002001 4000000007 3999999007
   pub a_from_o1 : Makes 0700002001 9000002003 8999002003
-  pub by-000 : Makes 0007002000 0000000000 0000000000
-  pub by-999 : Makes 0700002999 1000002003 0001002003
+  pub by_000 : Makes 0007002000 0000000000 0000000000
+  pub by_999 : Makes 0700002999 1000002003 0001002003
   -- ten zeros, and one less
   pub least : Makes 0007002001 0000000001 0000000000
   pub below_c : Refuses 0007002001 0000000000 20
@@ -117,8 +117,8 @@ addresses_added =
       b_to_a = refl;
       b_to_o1 = refl;
       a_to_o1 = refl;
-      by-000 = refl;
-      by-999 = refl;
+      by_000 = refl;
+      by_999 = refl;
       largest = refl;
       past_c = refl;
       past_b = refl;
@@ -145,8 +145,8 @@ addresses_taken =
       b_from_a = refl;
       b_from_o1 = refl;
       a_from_o1 = refl;
-      by-000 = refl;
-      by-999 = refl;
+      by_000 = refl;
+      by_999 = refl;
       least = refl;
       below_c = refl;
       below_b = refl;

@@ -32,8 +32,8 @@ swapped OfC w new l k = omega arith
 signed : (w d : ℕ) → w ≤ 19999999999 → d ≤ 9999999999 → with_digits w d ≤ 19999999999
 signed w d l k = omega arith
 
-raised-fits : (w n : ℕ) → w ≤ 19999999999 → Fits (raised_by w n)
-raised-fits w n l = by_test (leb (digits_in w + n) 9999999999) refl
+raised_fits : (w n : ℕ) → w ≤ 19999999999 → Fits (raised_by w n)
+raised_fits w n l = by_test (leb (digits_in w + n) 9999999999) refl
   where
     by_test : (t : Bool) → leb (digits_in w + n) 9999999999 ≡ t → Fits (pick t (Result (with_digits w (digits_in w + n))) (Refused BadAddress))
     by_test true e = signed w (digits_in w + n) l (leb-true (digits_in w + n) 9999999999 e)
@@ -46,14 +46,14 @@ lowered_fits w n l = by_test (leb n (digits_in w))
     by_test true = signed w (digits_in w - n) l (omega arith)
     by_test false = tt
 
-pub carried-fits : (k : Changing) (x : Address) (w c : ℕ) → w ≤ 19999999999 → c ≤ 999 → Fits (carried k x w c)
-carried-fits SetTo x w c l j = swapped x w c l j
-carried-fits AddTo x w c l j = raised-fits w (shifted x c) l
-carried-fits SubFrom x w c l j = lowered_fits w (shifted x c) l
+pub carried_fits : (k : Changing) (x : Address) (w c : ℕ) → w ≤ 19999999999 → c ≤ 999 → Fits (carried k x w c)
+carried_fits SetTo x w c l j = swapped x w c l j
+carried_fits AddTo x w c l j = raised_fits w (shifted x c) l
+carried_fits SubFrom x w c l j = lowered_fits w (shifted x c) l
 
-pub changed-fits : (t : Bool) (k : Changing) (x : Address) (w c : ℕ) → w ≤ 19999999999 → c ≤ 999 → Fits (changed_word t k x w c)
-changed-fits true k x w c l j = carried-fits k x w c l j
-changed-fits false k x w c l j = swapped x w (new_address k (address_in x w) c) l (new_small k (address_in x w) c j)
+pub changed_fits : (t : Bool) (k : Changing) (x : Address) (w c : ℕ) → w ≤ 19999999999 → c ≤ 999 → Fits (changed_word t k x w c)
+changed_fits true k x w c l j = carried_fits k x w c l j
+changed_fits false k x w c l j = swapped x w (new_address k (address_in x w) c) l (new_small k (address_in x w) c j)
 
 -- ---- refusals
 

@@ -13,7 +13,7 @@ use lib.ListN.{length, get_or, take, drop}
 use lib.Seq.{get_or-drop, drop-cons}
 use borrow.Author.Tests.{leb-true, ltb-true, ltb-false}
 use Rattle.rules.specs.Cards.{digits, is_digit, number_in}
-use Rattle.rules.proofs.Tests.{both_first, both-second}
+use Rattle.rules.proofs.Tests.{both_first, both_second}
 
 -- ---- powers of ten
 
@@ -78,13 +78,13 @@ number_dropped d b a (suc n) =
 
 -- ---- written and read
 
-digits-read : (n x : ℕ) (r : List ℕ) → number_in (digits n x ++ r) 0 n ≡ x % 10 ^ n
+digits_read : (n x : ℕ) (r : List ℕ) → number_in (digits n x ++ r) 0 n ≡ x % 10 ^ n
 unfolding digits number_in
-digits-read zero x r = omega arith
-digits-read (suc n) x r =
+digits_read zero x r = omega arith
+digits_read (suc n) x r =
     let b : ℕ = 48 + x / 10 ^ n % 10 in
     let t : List ℕ = digits n x ++ r in
-    let e : number_in (b ∷ t) 1 n ≡ x % 10 ^ n = sym (number_dropped (b ∷ t) 1 0 n) ∙ digits-read n x r in
+    let e : number_in (b ∷ t) 1 n ≡ x % 10 ^ n = sym (number_dropped (b ∷ t) 1 0 n) ∙ digits_read n x r in
     number_first (b ∷ t) 0 n ∙ ap₂ (λ (k m : ℕ). k * 10 ^ n + m) (omega arith) e ∙ sym (last_digits n x)
 
 -- n digits of x, from place a on, are read as the last n digits of x; as x where x has no more
@@ -93,7 +93,7 @@ number_low d r a n x e =
     ap (λ (k : ℕ). number_in d k n) (sym (add-zero a))
     ∙ sym (number_dropped d a 0 n)
     ∙ ap (λ (l : List ℕ). number_in l 0 n) e
-    ∙ digits-read n x r
+    ∙ digits_read n x r
 
 pub number_read : (d r : List ℕ) (a n x : ℕ) → drop a d ≡ digits n x ++ r → x < 10 ^ n → number_in d a n ≡ x
 number_read d r a n x e h = number_low d r a n x e ∙ mod-eq_of_lt h
@@ -105,7 +105,7 @@ abbrev pub AllDigits : List ℕ → ℕ → ℕ → Type 0
 AllDigits d a e = (o : ℕ) → a ≤ o → o < e → is_digit (get_or d o 0) ≡ true
 
 digit_bounds : (b : ℕ) → is_digit b ≡ true → (48 ≤ b) × (b ≤ 57)
-digit_bounds b e = (leb-true 48 b (both_first (leb 48 b) (leb b 57) e), leb-true b 57 (both-second (leb 48 b) (leb b 57) e))
+digit_bounds b e = (leb-true 48 b (both_first (leb 48 b) (leb b 57) e), leb-true b 57 (both_second (leb 48 b) (leb b 57) e))
 
 pub digits_join : (d : List ℕ) (a b e : ℕ) → AllDigits d a b → AllDigits d b e → AllDigits d a e
 digits_join d a b e f g o i l = by_place (ltb o b) refl

@@ -22,9 +22,9 @@ pub record FaultsTold : Type 0 where
   pub bad_sign : Tells "T00100020001001+000000000000000000000000" 15 26
   pub first_of_two_bad_bytes : Tells "T1 10 0" 15 2
   pub bad_byte_of_a_location_out_of_range : Tells "T00000A" 15 6
-  pub location-0 : Tells "T00100010001000+0000000000000" 16 12
-  pub last-cell-past-999 : Tells "20001999+0000000000+0000000000000T001000" 16 5
-  pub first-order-0 : Tells "10001001+0000000000000T000000" 16 23
+  pub location_0 : Tells "T00100010001000+0000000000000" 16 12
+  pub last_cell_past_999 : Tells "20001999+0000000000+0000000000000T001000" 16 5
+  pub first_order_0 : Tells "10001001+0000000000000T000000" 16 23
   pub second_first : Tells "T001000T001000" 17 7
   pub second_first_cut_short : Tells "T00100010001001+0000000000000T" 17 29
   pub none : Tells "" 18 0
@@ -44,9 +44,9 @@ faults_told =
       bad_sign = (refl, refl);
       first_of_two_bad_bytes = (refl, refl);
       bad_byte_of_a_location_out_of_range = (refl, refl);
-      location-0 = (refl, refl);
-      last-cell-past-999 = (refl, refl);
-      first-order-0 = (refl, refl);
+      location_0 = (refl, refl);
+      last_cell_past_999 = (refl, refl);
+      first_order_0 = (refl, refl);
       second_first = (refl, refl);
       second_first_cut_short = (refl, refl);
       none = (refl, refl);

@@ -36,13 +36,13 @@ use Rattle.rules.specs.declared.Going.{Going}
 use Rattle.rules.specs.declared.Going.TheVariants.{UncStop, CondStop, TrSgn, TrExp, Tr, TrSubr, Noop}
 use Rattle.rules.specs.declared.Tracing.{Tracing}
 use Rattle.rules.specs.declared.Tracing.TheVariants.{StartTr, StopTr, StTrEras}
-use Rattle.rules.proofs.Tests.{false-true}
+use Rattle.rules.proofs.Tests.{false_true}
 use Rattle.rules.proofs.Refusals.{Other, OfReckoned, OfChecked, OfJudged, OfOutcome, reckoned_other, checked_other, judged_other}
 use Rattle.rules.proofs.Changes.{changed_other}
-use Rattle.rules.proofs.Undone.{obeyed-stays}
+use Rattle.rules.proofs.Undone.{obeyed_stays}
 use Rattle.rules.proofs.Sound.{Steady}
 use Rattle.rules.proofs.Fields.{length_trace}
-use Rattle.rules.proofs.Punching.{is_pch, all_suit_lem, lookup_suits, not-traced, passes_block, cards_long}
+use Rattle.rules.proofs.Punching.{is_pch, all_suit_lem, lookup_suits, not_traced, passes_block, cards_long}
 
 -- ---- what an order writes, and when it is refused for want of room
 
@@ -153,8 +153,8 @@ module _ (i : Inputs) where
       let h : Writes i m (is_pch o) x =
       allowed_writes m o a b c (checked k m.cells a b c) (checked_other k m.cells a b c) (λ p t. passes_block k m.cells a b c (f t).0 p) l in
       record {
-        full = λ z. let g = h.full z in (not-traced (is_traced m.state) w (f g.0).1, g.1);
-        more = by_pch (is_pch o) refl (λ t. not-traced (is_traced m.state) w (f t).1) h.more;
+        full = λ z. let g = h.full z in (not_traced (is_traced m.state) w (f g.0).1, g.1);
+        more = by_pch (is_pch o) refl (λ t. not_traced (is_traced m.state) w (f t).1) h.more;
       }
     where
       by_pch : (p : Bool) → is_pch o ≡ p → (is_pch o ≡ true → is_traced m.state ≡ false)
@@ -185,7 +185,7 @@ module _ (i : Inputs) where
   plain_stepped : (m : Machine) (w : ℕ) → Stepped m (obeyed i m w)
   plain_stepped m w =
       let h = obeys m w in
-      record { full = λ e. (obeyed-stays i m w (ap tries_again e), (h.full e).1); more = by_mode (is_traced m.state) h.more }
+      record { full = λ e. (obeyed_stays i m w (ap tries_again e), (h.full e).1); more = by_mode (is_traced m.state) h.more }
     where
       by_mode : (t : Bool) {n : ℕ} → n ≤ length m.sent + pick t 0 most_sent → n ≤ length m.sent + most_sent
       by_mode true l = omega arith
@@ -203,7 +203,7 @@ module _ (i : Inputs) where
       by_tracing true e true g =
           let h = obeys (trace_sent m w w') w' in
           record {
-            full = λ z. false-true (sym (h.full z).0 ∙ f e);
+            full = λ z. false_true (sym (h.full z).0 ∙ f e);
             more = omega (arith, rw (f e) at h.more, trace_long m w w');
           }
       by_tracing true e false g =

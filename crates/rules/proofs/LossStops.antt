@@ -30,7 +30,7 @@ use Rattle.rules.specs.declared.Operation.{Operation}
 use Rattle.rules.specs.declared.Operation.TheVariants.{Reckon, Move, Go, Loop, Change, Read, Pch, Trace, MoveBlock, Compare}
 use Rattle.rules.specs.declared.Going.{Going}
 use Rattle.rules.specs.declared.Going.TheVariants.{UncStop, CondStop, TrSgn, TrExp, Tr, TrSubr, Noop}
-use Rattle.rules.proofs.Tests.{false-true, both_first, both-second}
+use Rattle.rules.proofs.Tests.{false_true, both_first, both_second}
 use Rattle.rules.proofs.Steps.{inputs_with, of_step}
 use Rattle.rules.proofs.RoomRuns.{run_on, run_ends, count_within}
 
@@ -71,7 +71,7 @@ pub record Eased (u t : Bool) (v : List Cell) (l : ℕ) (x y : Answer) : Type 0 
 module _ {u t : Bool} {v : List Cell} {l : ℕ} where
   -- the same order by both, and not stopped with 03
   same : {x : Answer} → is_loss x.outcome ≡ false → Eased u t v l x x
-  same f = record { going = λ e. refl; alike = λ e g. refl; stopped = λ w e. false-true (sym f ∙ ap is_loss e) }
+  same f = record { going = λ e. refl; alike = λ e g. refl; stopped = λ w e. false_true (sym f ∙ ap is_loss e) }
 
   -- a choice by a test that is the same for both
   either_eased : (b : Bool) (x y x' y' : Answer) → Eased u t v l x x' → Eased u t v l y y' → Eased u t v l (pick b x y) (pick b x' y')
@@ -97,7 +97,7 @@ module _ (i : Inputs) (s : Switches) (q : Requests) (never : (n : ℕ) → stops
       → Eases m (reckoned t m c r) (reckoned false m c r)
   reckoned_eased true h m c (Result w) =
       record {
-        going = false-true;
+        going = false_true;
         alike = λ e f. absurd (f w refl);
         stopped =
             λ w' e.
@@ -110,8 +110,8 @@ module _ (i : Inputs) (s : Switches) (q : Requests) (never : (n : ℕ) → stops
   cond_eased : (m : Machine) (b c : ℕ) (t t' : Bool) → i.switches.stop ≡ t → s.stop ≡ t' → Eases m (cond_stopped t m b c) (cond_stopped t' m b c)
   cond_eased m b c true true e f = same refl
   cond_eased m b c true false e f =
-      record { going = false-true; alike = λ z g. false-true (sym f ∙ z ∙ e); stopped = λ w g. false-true (ap is_loss g) }
-  cond_eased m b c false true e f = false-true (sym e ∙ less f)
+      record { going = false_true; alike = λ z g. false_true (sym f ∙ z ∙ e); stopped = λ w g. false_true (ap is_loss g) }
+  cond_eased m b c false true e f = false_true (sym e ∙ less f)
   cond_eased m b c false false e f = same refl
 
   gone_eased : (m : Machine) (g : Going) (b c : ℕ) → Eases m (gone i m g b c) (gone j m g b c)
@@ -139,7 +139,7 @@ module _ (i : Inputs) (s : Switches) (q : Requests) (never : (n : ℕ) → stops
       let y : ℕ = word_at m.cells b in
       let n : ℕ = loss_by k x y (reckoned_by k x y) in
       rw (never n)
-      (reckoned_eased (stops_at i n) (λ e. both_first i.switches.stop (ltb 2 n) (both-second i.requests.loss_stops (both i.switches.stop (ltb 2 n)) e)) m c
+      (reckoned_eased (stops_at i n) (λ e. both_first i.switches.stop (ltb 2 n) (both_second i.requests.loss_stops (both i.switches.stop (ltb 2 n)) e)) m c
       (reckoned_by k x y))
   performed_eased m Move a b c = same refl
   performed_eased m (Go g) a b c = gone_eased m g b c
@@ -187,7 +187,7 @@ module _ (i : Inputs) (s : Switches) (q : Requests) (never : (n : ℕ) → stops
   pub run_stopped : (k : ℕ) (m : Machine) (n d w : ℕ) → (run_from i k m n).outcome ≡ Stops Lost w → (run_from i k m n).count ≡ n + d
       → (i.switches.stop ≡ true) × (run_from j d m n ≡ went_on (run_from i k m n))
   unfolding run_from
-  run_stopped zero m n d w e c = false-true (ap is_loss e)
+  run_stopped zero m n d w e c = false_true (ap is_loss e)
   run_stopped (suc k) m n d w e c = by_step (may_go_on (step i m).outcome) refl d c (λ g. run_stopped k (step i m).machine (n + 1) g w)
     where
       by_step : (t : Bool) → may_go_on (step i m).outcome ≡ t → (d : ℕ) → (run_from i (suc k) m n).count ≡ n + d
@@ -222,6 +222,6 @@ unfolding step fetched
 some_cells i m w e = by_cells m.cells (both (leb 1 m.state.location) (leb m.state.location 999)) e
   where
     by_cells : (v : List Cell) (t : Bool) → (pick t (fetched i m (cell_at v m.state.location)) (undone BadAddress m)).outcome ≡ Stops Lost w → 0 < length v
-    by_cells [] true g = false-true (ap is_loss g)
-    by_cells [] false g = false-true (ap is_loss g)
+    by_cells [] true g = false_true (ap is_loss g)
+    by_cells [] false g = false_true (ap is_loss g)
     by_cells (x ∷ v) t g = omega arith

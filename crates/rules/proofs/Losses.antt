@@ -12,7 +12,7 @@ use Rattle.rules.specs.Rounded.{Rounded}
 use Rattle.rules.proofs.Nearest.{ten_above, ten_rises, nearest_is}
 use Rattle.rules.proofs.Rounded.{rounded_nearest, rounded_first}
 use Rattle.rules.proofs.Rounding.{Answer, answered}
-use Rattle.rules.proofs.Sums.{sum_same, sum_first, sum-second}
+use Rattle.rules.proofs.Sums.{sum_same, sum_first, sum_second}
 
 -- ---- what is rounded
 
@@ -45,7 +45,7 @@ module _ (f : Form) (s p t q r m a : ℕ) (i : sum f s p t q ≡ value r m a) wh
       by_size (yes l) = subst (λ (v : ℕ). Rounds f v m a) (omega arith) (settled_rounds f s (p - q) r m a (sym (sum_first f s p t q other l) ∙ i))
       by_size (no g) =
           let l : p < q = lt_of_not-le g in
-          subst (λ (v : ℕ). Rounds f v m a) (omega arith) (settled_rounds f t (q - p) r m a (sym (sum-second f s p t q other l) ∙ i))
+          subst (λ (v : ℕ). Rounds f v m a) (omega arith) (settled_rounds f t (q - p) r m a (sym (sum_second f s p t q other l) ∙ i))
 
   pub sum_rounds : (v : ℕ) × Rounds f v m a
   sum_rounds = by_sign (ℕ_discrete s t)

@@ -18,7 +18,7 @@ use Rattle.rules.specs.Codes.{owned_at}
 use Rattle.rules.specs.Making.{Block, blocks_in}
 use Rattle.rules.specs.declared.Cell.{Cell}
 use Rattle.rules.specs.declared.Cell.TheVariants.{Foreign, Owned}
-use Rattle.rules.proofs.Tests.{false-true}
+use Rattle.rules.proofs.Tests.{false_true}
 use Rattle.rules.proofs.Blocks.{owned_is, foreign_is, owned_inside, Run, run_inside, Cut, no_steps, passes, takes, all_ahead}
 
 -- ---- the words of a card, stored
@@ -79,7 +79,7 @@ one_passed {v} {old} {new} {a} {x} o r =
     record { marked = λ l m. by_first l m (eqb a x) refl; kept = λ f. r.kept (λ l. f (omega arith)) }
   where
     by_first : a ≤ x → owned_at v x ≡ true → (t : Bool) → eqb a x ≡ t → cell_at new x ≡ cell_at v x
-    by_first l m true e = false-true (sym o ∙ ap (owned_at v) (eqb-true a x e) ∙ m)
+    by_first l m true e = false_true (sym o ∙ ap (owned_at v) (eqb-true a x e) ∙ m)
     by_first l m false e = let d = eqb-false a x e in r.marked (omega arith) m
 
 -- a card, and then the others
@@ -102,7 +102,7 @@ module _ {v new : List Cell} {a n end x : ℕ} {k : DataCard} (h : Run v a n 5) 
         kept = λ f.
             r.kept (λ l. f (omega arith))
             ∙ words_elsewhere k.rest k.location k.words old x
-            (λ p q. false-true (sym (f (omega arith)) ∙ h.owned x (omega arith) (omega arith)));
+            (λ p q. false_true (sym (f (omega arith)) ∙ h.owned x (omega arith) (omega arith)));
       }
     where
       by_marked : a ≤ x → owned_at v x ≡ true → (t : Bool) → ltb x (a + n) ≡ t → cell_at new x ≡ cell_at v x

@@ -20,9 +20,9 @@ use Rattle.rules.specs.declared.Card.TheVariants.{Data, First}
 use Rattle.rules.specs.declared.DeckFault.{DeckFault}
 use Rattle.rules.specs.declared.DeckFault.TheVariants.{NoFirst}
 use Rattle.rules.specs.declared.Deck.TheVariants.{Good, Faulty}
-use Rattle.rules.proofs.Tests.{both_first, both-second}
+use Rattle.rules.proofs.Tests.{both_first, both_second}
 use Rattle.rules.proofs.Fields.{length_first, behind}
-use Rattle.rules.proofs.CardTrips.{DataRead, data_is, data_written-read, data_written_words, first-is, first_written-read}
+use Rattle.rules.proofs.CardTrips.{DataRead, data_is, data_written_read, data_written_words, first_is, first_written_read}
 use Rattle.rules.proofs.Decks.{cards_next, cards_end, data_at, data_next, from_data, from_first}
 use Rattle.rules.proofs.Sound.{all_words}
 use Rattle.rules.proofs.Punching.{words_long, card_bytes}
@@ -68,7 +68,7 @@ module _ (v : List Cell) (order problem : ℕ) (long : length v ≡ 1000) (are_w
         ap card_of e
         ∙ data_is _ number a n problem (11 + 11 * n)
         (subst (λ (k : ℕ). DataRead (card_for v problem number a n ++ rest) number a k problem (11 + 11 * k)) l
-        (data_written-read number a ws problem rest (omega arith) (omega arith) (omega arith) (omega arith) (omega arith) (omega arith)))
+        (data_written_read number a ws problem rest (omega arith) (omega arith) (omega arith) (omega arith) (omega arith) (omega arith)))
 
     card_has : (i : ℕ) → i < n → word_in (drop at deck) (8 + 11 * i) ≡ word_at v (a + i)
     card_has i l =
@@ -96,7 +96,7 @@ module _ (v : List Cell) (order problem : ℕ) (long : length v ≡ 1000) (are_w
     last_read at number e =
         let is : card_at deck at ≡ First order problem =
         ap card_of (e ∙ sym (append-nil (first_card order problem)))
-        ∙ first-is _ order problem (first_written-read order problem [] from (omega arith) (omega arith)) in
+        ∙ first_is _ order problem (first_written_read order problem [] from (omega arith) (omega arith)) in
         let end : at + 7 ≡ length deck = omega (arith, length-drop at deck, ap length e, length_first order problem) in
         let next = cards_next deck at 7 (ap card_size is) (omega arith) in
         record {
@@ -154,10 +154,10 @@ module _ (v : List Cell) (order problem : ℕ) (long : length v ≡ 1000) (fit :
   deck_bears = whole.bears
 
 -- what is known of the numbers that a deck may have
-pub in-range : (order problem : ℕ) → numbers_fit order problem ≡ true → (1 ≤ order) × (order ≤ 999) × (problem ≤ 999)
-in-range order problem e =
-    let f = both-second (leb 1 order) (both (leb order 999) (leb problem 999)) e in (
+pub in_range_lem : (order problem : ℕ) → numbers_fit order problem ≡ true → (1 ≤ order) × (order ≤ 999) × (problem ≤ 999)
+in_range_lem order problem e =
+    let f = both_second (leb 1 order) (both (leb order 999) (leb problem 999)) e in (
       leb-true 1 order (both_first (leb 1 order) (both (leb order 999) (leb problem 999)) e),
       leb-true order 999 (both_first (leb order 999) (leb problem 999) f),
-      leb-true problem 999 (both-second (leb order 999) (leb problem 999) f),
+      leb-true problem 999 (both_second (leb order 999) (leb problem 999) f),
     )

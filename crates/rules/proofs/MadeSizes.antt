@@ -13,7 +13,7 @@ use Rattle.rules.specs.Codes.{owned_at}
 use Rattle.rules.specs.Orders.{words_from}
 use Rattle.rules.specs.Making.{Block, blocks_in, cards_for, deck_made}
 use Rattle.rules.specs.declared.Cell.{Cell}
-use Rattle.rules.proofs.Tests.{false-true}
+use Rattle.rules.proofs.Tests.{false_true}
 use Rattle.rules.proofs.Fields.{length_first}
 use Rattle.rules.proofs.Punching.{card_bytes}
 use Rattle.rules.proofs.Blocks.{run_inside, Cut, no_steps, passes, takes, all_ahead, none_behind}
@@ -30,9 +30,9 @@ cards_bytes v problem number (b ∷ bs) =
     length-append (data_card number b.location (words_from v b.location b.cells) problem) (cards_for v problem (number + 1) bs)
     ∙ omega (arith, card_bytes v number b.location b.cells problem, cards_bytes v problem (number + 1) bs)
 
-pub deck-bytes : (v : List Cell) (order problem : ℕ) → length (deck_made v order problem) ≡ 7 + 11 * elevens (blocks_in v)
+pub deck_bytes : (v : List Cell) (order problem : ℕ) → length (deck_made v order problem) ≡ 7 + 11 * elevens (blocks_in v)
 unfolding deck_made
-deck-bytes v order problem =
+deck_bytes v order problem =
     length-append (cards_for v problem 1 (blocks_in v)) (first_card order problem)
     ∙ omega (arith, length_first order problem, cards_bytes v problem 1 (blocks_in v))
 
@@ -57,7 +57,7 @@ few_from {v} {a = a} {bs = bs} (passes o c) l u = by_end (ltb a 1000) refl (λ (
         record { all = omega arith; behind = λ e. omega arith }
 few_from {v} (takes {a = a} {n = n} {bs = bs} s r c) l u =
     let here = r.owned a (omega arith) (omega arith) in
-    record { all = by_five (ltb n 5) refl (few_from c l (omega (arith, run_inside s r))); behind = λ e. false-true (sym e ∙ here) }
+    record { all = by_five (ltb n 5) refl (few_from c l (omega (arith, run_inside s r))); behind = λ e. false_true (sym e ∙ here) }
   where
     by_five : (t : Bool) → ltb n 5 ≡ t → Few v (a + n) (elevens bs) → 5 * (1 + n + elevens bs) + 6 * a ≤ 6004
     by_five true f rest = omega (arith, rest.behind (r.ends (ltb-true n 5 f)))
@@ -66,4 +66,4 @@ few_from {v} (takes {a = a} {n = n} {bs = bs} s r c) l u =
 pub made_short : (v : List Cell) (order problem : ℕ) → length v ≡ 1000 → length (deck_made v order problem) ≤ 13196
 made_short v order problem l =
     let r : Few v 1 (elevens (blocks_in v)) = few_from (all_ahead v).cut l (omega arith) in
-    omega (arith, deck-bytes v order problem, r.all)
+    omega (arith, deck_bytes v order problem, r.all)

@@ -62,12 +62,12 @@ pub record BlocksMoved : Type 0 where
   -- a minus order of MOVE 000 is made a block move of two words by the box
   pub by_the_box : Moves 19000002004 (Owned 10000000000 ∷ Owned 0000000005 ∷ Owned 10000000000 ∷ Owned 0000000005 ∷ Foreign ∷ [])
   -- from 000 and to 000, past 999 by either block: 20, though the first source cell may not be owned; the last cell may be 999
-  pub from-000 : Refuses 9001000002 20
-  pub to-000 : Refuses 9001002000 20
-  pub source-past-999 : Refuses 9002999002 20
-  pub destination-past-999 : Refuses 9002002999 20
+  pub from_000 : Refuses 9001000002 20
+  pub to_000 : Refuses 9001002000 20
+  pub source_past_999 : Refuses 9002999002 20
+  pub destination_past_999 : Refuses 9002002999 20
   pub both_tell : Refuses 9002006999 20
-  pub source-at-999 : Refuses 9002998002 21
+  pub source_at_999 : Refuses 9002998002 21
   pub longest : Refuses 9999001001 21
   pub longer : Refuses 9999001002 20
   -- a source cell that is not owned: the only one, and the last
@@ -100,12 +100,12 @@ blocks_moved =
       one = refl;
       itself = refl;
       by_the_box = refl;
-      from-000 = refl;
-      to-000 = refl;
-      source-past-999 = refl;
-      destination-past-999 = refl;
+      from_000 = refl;
+      to_000 = refl;
+      source_past_999 = refl;
+      destination_past_999 = refl;
       both_tell = refl;
-      source-at-999 = refl;
+      source_at_999 = refl;
       longest = refl;
       longer = refl;
       foreign = refl;

@@ -26,9 +26,9 @@ module _ (h e : ℕ) where
       let l : 2 * ((g + 1) / 2) ≤ g + 1 = omega arith in
       omega (arith, div-mul-le_self h (10 ^ e), mul-le-mul_right (10 ^ e) l)
 
-  pub nearest-not_passed : h < 2 * (nearest h e * 10 ^ e) + 10 ^ e
+  pub nearest_not_passed : h < 2 * (nearest h e * 10 ^ e) + 10 ^ e
   unfolding nearest
-  nearest-not_passed =
+  nearest_not_passed =
       let g : ℕ = h / 10 ^ e in
       let l : g ≤ 2 * ((g + 1) / 2) = omega arith in
       omega (arith, lt-div-mul-add {a = h} {b = 10 ^ e} (ten_above e), mul-le-mul_right (10 ^ e) l)
@@ -43,7 +43,7 @@ no_more h u m n low high =
 pub nearest_is : (h e m : ℕ) → 2 * (m * 10 ^ e) ≤ h + 10 ^ e → h < 2 * (m * 10 ^ e) + 10 ^ e → nearest h e ≡ m
 nearest_is h e m low high =
     le_antisymm (no_more h (10 ^ e) (nearest h e) m (nearest_reached h e) high)
-    (no_more h (10 ^ e) m (nearest h e) low (nearest-not_passed h e))
+    (no_more h (10 ^ e) m (nearest h e) low (nearest_not_passed h e))
 
 -- at a higher place there are no more units
 nearest_falls : (h : ℕ) {e t : ℕ} → e ≤ t → nearest h t ≤ nearest h e

@@ -22,7 +22,7 @@ use Rattle.rules.specs.declared.Class.{Class}
 use Rattle.rules.specs.declared.Class.TheVariants.{Free, TwoNumbers, OneNumber, OneWord, Changed, Linked, BlockOut, BlockIn, BlockMoved, Compared}
 use Rattle.rules.specs.declared.Operation.{Operation}
 use Rattle.rules.specs.declared.Operation.TheVariants.{Reckon, Move, Go, Loop, Change, Read, Pch, Trace, MoveBlock, Compare}
-use Rattle.rules.proofs.Tests.{both_first, both-second, false-true}
+use Rattle.rules.proofs.Tests.{both_first, both_second, false_true}
 use Rattle.rules.proofs.Fields.{length_data}
 
 -- ---- PCH in the table of codes
@@ -76,7 +76,7 @@ pub lookup_suits : (code : ℕ) (rs : List Row) → all_suit rs ≡ true → (o 
     → (is_out k ≡ true) × (code ≡ pch_code)
 unfolding lookup all_suit
 lookup_suits code [] h o k e t = none_built o k e
-lookup_suits code (r ∷ rs) h o k e t = by_code (eqb code r.code) refl (lookup_suits code rs (both-second (row_suits r) (all_suit rs) h) o k)
+lookup_suits code (r ∷ rs) h o k e t = by_code (eqb code r.code) refl (lookup_suits code rs (both_second (row_suits r) (all_suit rs) h) o k)
   where
     by_code : (b : Bool) → eqb code r.code ≡ b → (lookup code rs ≡ As o k → is_pch o ≡ true → (is_out k ≡ true) × (code ≡ pch_code))
         → (is_out k ≡ true) × (code ≡ pch_code)
@@ -85,14 +85,14 @@ lookup_suits code (r ∷ rs) h o k e t = by_code (eqb code r.code) refl (lookup_
         let s : both (is_out r.class) (eqb r.code pch_code) ≡ true =
         rw (ap is_pch (same_operation q) ∙ t) at (both_first (row_suits r) (all_suit rs) h) in (
           ap is_out (sym (same_class q)) ∙ both_first (is_out r.class) (eqb r.code pch_code) s,
-          eqb-true code r.code f ∙ eqb-true r.code pch_code (both-second (is_out r.class) (eqb r.code pch_code) s),
+          eqb-true code r.code f ∙ eqb-true r.code pch_code (both_second (is_out r.class) (eqb r.code pch_code) s),
         )
     by_code false f g = g (rw f at e) t
 
 -- in traced mode it is not looked up
-pub not-traced : (t : Bool) (w : ℕ) → code_done t w ≡ pch_code → t ≡ false
-not-traced false w e = refl
-not-traced true w e = by_code (eqb (code_in w) pch_code) refl e
+pub not_traced : (t : Bool) (w : ℕ) → code_done t w ≡ pch_code → t ≡ false
+not_traced false w e = refl
+not_traced true w e = by_code (eqb (code_in w) pch_code) refl e
   where
     by_code : (b : Bool) → eqb (code_in w) pch_code ≡ b → pick b noop_code (code_in w) ≡ pch_code → true ≡ false
     by_code true f g = let z : ⊥ = omega arith in absurd z
@@ -101,20 +101,20 @@ not-traced true w e = by_code (eqb (code_in w) pch_code) refl e
 -- what passes its checks has a block that begins behind 000
 pub passes_block : (k : Class) (v : List Cell) (a b c : ℕ) → is_out k ≡ true → checked k v a b c ≡ Passes → 1 ≤ b
 unfolding checked
-passes_block Free v a b c t e = false-true t
-passes_block TwoNumbers v a b c t e = false-true t
-passes_block OneNumber v a b c t e = false-true t
-passes_block OneWord v a b c t e = false-true t
-passes_block Changed v a b c t e = false-true t
-passes_block Linked v a b c t e = false-true t
+passes_block Free v a b c t e = false_true t
+passes_block TwoNumbers v a b c t e = false_true t
+passes_block OneNumber v a b c t e = false_true t
+passes_block OneWord v a b c t e = false_true t
+passes_block Changed v a b c t e = false_true t
+passes_block Linked v a b c t e = false_true t
 passes_block BlockOut v a b c t e = by_block (block_fits b c) refl e
   where
     by_block : (u : Bool) → block_fits b c ≡ u → and_then (unless u BadAddress) (and_then (unless (owned_from v b (c + 1 - b)) Unmarked) Passes) ≡ Passes → 1 ≤ b
     by_block true f g = leb-true 1 b (both_first (leb 1 b) (leb b c) f)
     by_block false f g = let z : ◌≡◌ {A = ℕ} 0 1 = cc in let y : ⊥ = omega arith in absurd y
-passes_block BlockIn v a b c t e = false-true t
-passes_block BlockMoved v a b c t e = false-true t
-passes_block Compared v a b c t e = false-true t
+passes_block BlockIn v a b c t e = false_true t
+passes_block BlockMoved v a b c t e = false_true t
+passes_block Compared v a b c t e = false_true t
 
 -- ---- how long cards are
 
@@ -129,8 +129,8 @@ card_bytes v number b n problem = length_data number b (words_from v b n) proble
 card_long : (m : Machine) (b n : ℕ) → length (card_punched m b n).sent ≡ length m.sent + (11 + 11 * n)
 card_long m b n = length-append m.sent _ ∙ ap (λ (k : ℕ). length m.sent + k) (card_bytes m.cells _ b n _)
 
-five-fits : (n : ℕ) → 1 ≤ n → (1 ≤ five n) × (five n ≤ n) × (punch_size n ≡ 11 + 11 * five n + punch_size (n - five n))
-five-fits n l = by_few (ltb n 5) refl
+five_fits : (n : ℕ) → 1 ≤ n → (1 ≤ five n) × (five n ≤ n) × (punch_size n ≡ 11 + 11 * five n + punch_size (n - five n))
+five_fits n l = by_few (ltb n 5) refl
   where
     by_few : (t : Bool) → ltb n 5 ≡ t → (1 ≤ pick t n 5) × (pick t n 5 ≤ n) × (punch_size n ≡ 11 + 11 * pick t n 5 + punch_size (n - pick t n 5))
     by_few true f = let k = ltb-true n 5 f in (l, omega arith, omega arith)
@@ -147,5 +147,5 @@ cards_long (suc j) m b n l = by_none (eqb n 0) refl (cards_long j (card_punched 
     by_none true e r = let z = eqb-true n 0 e in rw (e, cards_punched) (omega arith)
     by_none false e r =
         let z = eqb-false n 0 e in
-        let f = five-fits n (omega arith) in
+        let f = five_fits n (omega arith) in
         rw (e, cards_punched) (r (omega (arith, f.0, f.1)) ∙ omega (arith, card_long m b (five n), f.2))

@@ -14,9 +14,9 @@ use Rattle.rules.specs.declared.Card.TheVariants.{Data}
 use Rattle.rules.specs.declared.Refusal.{Refusal}
 use Rattle.rules.specs.declared.Refusal.TheVariants.{NoCard}
 use Rattle.rules.specs.declared.Judged.TheVariants.{Fits, Fails}
-use Rattle.rules.proofs.Tests.{false-true}
+use Rattle.rules.proofs.Tests.{false_true}
 use Rattle.rules.proofs.Decks.{cards_end, data_next}
-use Rattle.rules.proofs.Tails.{Tail, at-end, one_more}
+use Rattle.rules.proofs.Tails.{Tail, at_end, one_more}
 
 -- ---- where a reader may stand
 
@@ -47,10 +47,10 @@ stands_end deck at r l e =
   where
     by_end : (t : Bool) → eqb (length deck) r ≡ t → either t false ≡ true → r ≡ at
     by_end true f g = let h = eqb-true (length deck) r f in omega arith
-    by_end false f g = false-true g
+    by_end false f g = false_true g
 
 stands_here : (deck : List ℕ) (at : ℕ) → Tail deck at → may_stand deck at at ≡ true
-stands_here deck at (at-end a l) = rw (eq-eqb (length deck) at (sym l))
+stands_here deck at (at_end a l) = rw (eq-eqb (length deck) at (sym l))
 stands_here deck at (one_more a q t) = rw (stands_next deck at at q, eq-eqb at at refl) (go (eqb (length deck) at))
   where
     go : (b : Bool) → either b true ≡ true
@@ -62,8 +62,8 @@ pub record From (deck : List ℕ) (at r : ℕ) : Type 0 where
   pub stands : (e : ℕ) → may_stand deck r e ≡ true → may_stand deck at e ≡ true
 
 pub tail_from : (deck : List ℕ) (at r : ℕ) → Tail deck at → may_stand deck at r ≡ true → From deck at r
-tail_from deck at r (at-end a l) e =
-    subst (From deck at) (sym (stands_end deck at r l e)) (record { tail = at-end at l; stands = λ x y. y })
+tail_from deck at r (at_end a l) e =
+    subst (From deck at) (sym (stands_end deck at r l e)) (record { tail = at_end at l; stands = λ x y. y })
 tail_from deck at r (one_more a {size = size} q t) e =
     by_place (eqb at r) refl (eqb (length deck) r) refl (λ f. tail_from deck (at + size) r t f)
   where
@@ -88,11 +88,11 @@ unmoved deck at end t e = subst (λ (x : ℕ). may_stand deck at x ≡ true) (sa
 -- the place behind the cards read
 read_stands : (deck : List ℕ) (at b c end : ℕ) → Tail deck at → judged_from deck at b c ≡ Fits end → may_stand deck at end ≡ true
 unfolding judged data_in
-read_stands deck at b c end (at-end a l) e =
+read_stands deck at b c end (at_end a l) e =
     by_filled (ltb c b) (rw (ap data_in (cards_end deck at (omega arith))) at e)
   where
     by_filled : (t : Bool) → pick t (Fits at) (Fails NoCard) ≡ Fits end → may_stand deck at end ≡ true
-    by_filled true f = unmoved deck at end (at-end at l) f
+    by_filled true f = unmoved deck at end (at_end at l) f
     by_filled false f = fails_fits f
 read_stands deck at b c end (one_more a {location = location} {words = words} {size = size} q t) e =
     by_filled (ltb c b) refl (fits_block (card location words size) b c) refl (read_stands deck (at + size) (b + words) c end t)

@@ -46,13 +46,13 @@ abbrev pub Fits : Reckoned → Type 0
 Fits (Result w) = w ≤ 19999999999
 Fits (Refused r) = Unit {0}
 
-pick-fits : (t : Bool) (x y : Reckoned) → Fits x → Fits y → Fits (pick t x y)
-pick-fits true x y p q = p
-pick-fits false x y p q = q
+pick_fits : (t : Bool) (x y : Reckoned) → Fits x → Fits y → Fits (pick t x y)
+pick_fits true x y p q = p
+pick_fits false x y p q = q
 
-placed-fits : (s m e : ℕ) → s ≤ 1 → (e < 200 → m < 100000000) → Fits (word_of (placed single s m e))
+placed_fits : (s m e : ℕ) → s ≤ 1 → (e < 200 → m < 100000000) → Fits (word_of (placed single s m e))
 unfolding placed
-placed-fits s m e k l = by_low (leb 100 e) refl (ltb e 200) refl
+placed_fits s m e k l = by_low (leb 100 e) refl (ltb e 200) refl
   where
     by_low : (t : Bool) → leb 100 e ≡ t → (u : Bool) → ltb e 200 ≡ u
         → Fits (word_of (pick t (pick u (value s m (e - 100)) outside) outside))
@@ -64,13 +64,13 @@ placed-fits s m e k l = by_low (leb 100 e) refl (ltb e 200) refl
     by_low true f false g = tt
     by_low false f u g = tt
 
-settled-fits : (s h : ℕ) → s ≤ 1 → Fits (word_of (settled single s h))
+settled_fits : (s h : ℕ) → s ≤ 1 → Fits (word_of (settled single s h))
 unfolding settled
-settled-fits s h k = by_zero (eqb h 0)
+settled_fits s h k = by_zero (eqb h 0)
   where
     by_zero : (t : Bool) → Fits (word_of (pick t nought (placed single s (nearest h (place_in single h)) (place_in single h))))
     by_zero true = omega arith
-    by_zero false = placed-fits s (nearest h (place_in single h)) (place_in single h) k (λ l. few 8 h 400 (omega arith))
+    by_zero false = placed_fits s (nearest h (place_in single h)) (place_in single h) k (λ l. few 8 h 400 (omega arith))
 
 sum_fits : (s x t y : ℕ) → s ≤ 1 → t ≤ 1 → Fits (word_of (sum single s x t y))
 unfolding sum
@@ -78,9 +78,9 @@ sum_fits s x t y k l = by_sign (eqb s t) (leb y x)
   where
     by_sign : (u v : Bool)
         → Fits (word_of (pick u (settled single s (2 * (x + y) / 1)) (pick v (settled single s (2 * (x - y) / 1)) (settled single t (2 * (y - x) / 1)))))
-    by_sign true v = settled-fits s _ k
-    by_sign false true = settled-fits s _ k
-    by_sign false false = settled-fits t _ l
+    by_sign true v = settled_fits s _ k
+    by_sign false true = settled_fits s _ k
+    by_sign false false = settled_fits t _ l
 
 -- a number's sign
 pub number_word : (w : ℕ) → is_number w ≡ true → w ≤ 19999999999
@@ -109,14 +109,14 @@ number_fits b r f = by_test (is_number b) refl
     by_test true q = f q
     by_test false q = tt
 
-pub reckoned-fits : (r : Reckoning) (x y : ℕ) → Fits (reckoned_by r x y)
+pub reckoned_fits : (r : Reckoning) (x y : ℕ) → Fits (reckoned_by r x y)
 unfolding add_of sub_of mpy_of div_of ngmpy_of sqrt_of abs_of sum_of difference_of product_of quotient_of root_of
-reckoned-fits Add x y = numbers_fit x y _ (λ p q. sum_fits (sign_in x) _ (sign_in y) _ (sign_small x p) (sign_small y q))
-reckoned-fits Sub x y = numbers_fit x y _ (λ p q. sum_fits (sign_in x) _ (turned (sign_in y)) _ (sign_small x p) (omega arith))
-reckoned-fits Mpy x y = numbers_fit x y _ (λ p q. settled-fits (signs (value_in x) (value_in y)) _ (omega arith))
-reckoned-fits Div x y =
-    numbers_fit x y _ (λ p q. pick-fits (eqb y 0) (Refused ZeroDivisor) _ tt (settled-fits (signs (value_in x) (value_in y)) _ (omega arith)))
-reckoned-fits Ngmpy x y = numbers_fit x y _ (λ p q. settled-fits (turned (signs (value_in x) (value_in y))) _ (omega arith))
-reckoned-fits Sqrt x y =
-    number_fits y _ (λ q. pick-fits (eqb (sign_in y) 1) (Refused NegativeRoot) _ tt (settled-fits 0 _ (omega arith)))
-reckoned-fits Abs x y = number_fits y _ (λ q. omega arith)
+reckoned_fits Add x y = numbers_fit x y _ (λ p q. sum_fits (sign_in x) _ (sign_in y) _ (sign_small x p) (sign_small y q))
+reckoned_fits Sub x y = numbers_fit x y _ (λ p q. sum_fits (sign_in x) _ (turned (sign_in y)) _ (sign_small x p) (omega arith))
+reckoned_fits Mpy x y = numbers_fit x y _ (λ p q. settled_fits (signs (value_in x) (value_in y)) _ (omega arith))
+reckoned_fits Div x y =
+    numbers_fit x y _ (λ p q. pick_fits (eqb y 0) (Refused ZeroDivisor) _ tt (settled_fits (signs (value_in x) (value_in y)) _ (omega arith)))
+reckoned_fits Ngmpy x y = numbers_fit x y _ (λ p q. settled_fits (turned (signs (value_in x) (value_in y))) _ (omega arith))
+reckoned_fits Sqrt x y =
+    number_fits y _ (λ q. pick_fits (eqb (sign_in y) 1) (Refused NegativeRoot) _ tt (settled_fits 0 _ (omega arith)))
+reckoned_fits Abs x y = number_fits y _ (λ q. omega arith)

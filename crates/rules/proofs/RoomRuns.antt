@@ -12,7 +12,7 @@ use Rattle.rules.specs.Running.{Course, step, run_from}
 use Rattle.rules.specs.declared.Refusal.TheVariants.{NoRoom}
 use Rattle.rules.specs.declared.Outcome.{Outcome}
 use Rattle.rules.specs.declared.Outcome.TheVariants.{GoesOn, Stops, Undone}
-use Rattle.rules.proofs.Tests.{false-true}
+use Rattle.rules.proofs.Tests.{false_true}
 use Rattle.rules.proofs.Tails.{Tail}
 use Rattle.rules.proofs.SoundChanges.{Sound}
 use Rattle.rules.proofs.SoundOrders.{step_sound}
@@ -34,8 +34,8 @@ ended_at x n = record { outcome = x.outcome; machine = x.machine; count = n + co
 full_ends : (o : Outcome) → o ≡ Undone NoRoom → may_go_on o ≡ false
 full_ends o e = ap may_go_on e
 
-goes-not_full : {A : Type 0} → GoesOn ≡ Undone NoRoom → A
-goes-not_full e = let z : ◌≡◌ {A = ℕ} 0 1 = cc in let y : ⊥ = omega arith in absurd y
+goes_not_full : {A : Type 0} → GoesOn ≡ Undone NoRoom → A
+goes_not_full e = let z : ◌≡◌ {A = ℕ} 0 1 = cc in let y : ⊥ = omega arith in absurd y
 
 -- ---- one order of a run
 
@@ -107,14 +107,14 @@ module _ (p : List ℕ) (r : ℕ) (i : Inputs) (a : ℕ) where
 -- ---- the first room becomes full, the other does not: what is left to do in the other is done from where the first was left
 
 module _ (p : List ℕ) (r : ℕ) (i : Inputs) (a behind : ℕ) (tail : Tail i.deck behind) where
-  pub run-left : (k : ℕ) (m : Machine) (n l : ℕ) → Sound i.deck behind m → (run_from i k m n).outcome ≡ Undone NoRoom
+  pub run_left : (k : ℕ) (m : Machine) (n l : ℕ) → Sound i.deck behind m → (run_from i k m n).outcome ≡ Undone NoRoom
       → NotFull (run_from (in_room r i) k (sent_before p m) (a + n)).outcome → (run_from i k m n).count + l ≡ n + k
       → run_from (in_room r i) k (sent_before p m) (a + n)
       ≡ run_from (in_room r i) l (sent_before p (run_from i k m n).machine) (a + (run_from i k m n).count)
   unfolding run_from
-  run-left zero m n l s f g b = goes-not_full f
-  run-left (suc k) m n l s f g b =
-      by_step (may_go_on (step i m).outcome) refl (step_alike p r i m) (run-left k (step i m).machine (n + 1) l (step_sound i behind tail m s))
+  run_left zero m n l s f g b = goes_not_full f
+  run_left (suc k) m n l s f g b =
+      by_step (may_go_on (step i m).outcome) refl (step_alike p r i m) (run_left k (step i m).machine (n + 1) l (step_sound i behind tail m s))
     where
       by_step : (t : Bool) → may_go_on (step i m).outcome ≡ t → Alike p (step i m) (step (in_room r i) (sent_before p m))
           → ((run_from i k (step i m).machine (n + 1)).outcome ≡ Undone NoRoom
@@ -124,7 +124,7 @@ module _ (p : List ℕ) (r : ℕ) (i : Inputs) (a behind : ℕ) (tail : Tail i.d
           ≡ run_from (in_room r i) l (sent_before p (run_from i k (step i m).machine (n + 1)).machine) (a + (run_from i k (step i m).machine (n + 1)).count))
           → run_from (in_room r i) (suc k) (sent_before p m) (a + n)
           ≡ run_from (in_room r i) l (sent_before p (run_from i (suc k) m n).machine) (a + (run_from i (suc k) m n).count)
-      by_step true u (first_full e) h = false-true (sym (full_ends (step i m).outcome e) ∙ u)
+      by_step true u (first_full e) h = false_true (sym (full_ends (step i m).outcome e) ∙ u)
       by_step true u (second_full e) h = absurd (g (run_full (in_room r i) k (sent_before p m) (a + n) e))
       by_step true u (alike e) h =
           let v : may_go_on (step (in_room r i) (sent_before p m)).outcome ≡ true = ap (λ (x : Answer). may_go_on x.outcome) e ∙ u in
@@ -153,7 +153,7 @@ module _ (i : Inputs) (behind : ℕ) (tail : Tail i.deck behind) where
   -- for the most that all orders of the budget can write
   pub run_fits : (k : ℕ) (m : Machine) (n : ℕ) → Sound i.deck behind m → length m.sent + most_sent * k ≤ i.room → NotFull (run_from i k m n).outcome
   unfolding run_from
-  run_fits zero m n s l = goes-not_full
+  run_fits zero m n s l = goes_not_full
   run_fits (suc k) m n s l =
       let x = step_stepped i m (traced_only m s.state) in
       by_step (may_go_on (step i m).outcome) refl
@@ -171,7 +171,7 @@ module _ (i : Inputs) (behind : ℕ) (tail : Tail i.deck behind) where
   pub full_took : (k : ℕ) (m : Machine) (n : ℕ) → Sound i.deck behind m → length m.sent + most_sent ≤ i.room
       → (run_from i k m n).outcome ≡ Undone NoRoom → n < (run_from i k m n).count
   unfolding run_from
-  full_took zero m n s l e = goes-not_full e
+  full_took zero m n s l e = goes_not_full e
   full_took (suc k) m n s l e = by_step (may_go_on (step i m).outcome) refl
     where
       by_step : (t : Bool) → may_go_on (step i m).outcome ≡ t → n < (run_from i (suc k) m n).count

@@ -7,7 +7,7 @@ use native.Mathlib.Decide.{dec_le}
 use native.Mathlib.Omega.{arith}
 use Rattle.rules.specs.Rounding.{nearest}
 use Rattle.rules.specs.Rounded.{Rounded}
-use Rattle.rules.proofs.Nearest.{ten_above, nearest_reached, nearest-not_passed, nearest_is, Right}
+use Rattle.rules.proofs.Nearest.{ten_above, nearest_reached, nearest_not_passed, nearest_is, Right}
 
 -- d digits are filled by units of the place k where they are by tenths of the next unit
 pub tenth_filled : (d h k : ℕ) → 2 * (10 ^ d * 10 ^ suc k) ≤ 10 * h + 10 ^ suc k → 2 * (10 ^ d * 10 ^ k) ≤ h + 10 ^ k
@@ -17,7 +17,7 @@ tenth_filled d h k l =
 
 pub filled : (d h k : ℕ) → 2 * (10 ^ d * 10 ^ k) ≤ h + 10 ^ k → 10 ^ d ≤ nearest h k
 filled d h k l =
-    let g : 10 ^ d * 10 ^ k < suc (nearest h k) * 10 ^ k = omega (arith, nearest-not_passed h k) in
+    let g : 10 ^ d * 10 ^ k < suc (nearest h k) * 10 ^ k = omega (arith, nearest_not_passed h k) in
     let w : 10 ^ d < suc (nearest h k) = lt_of_mul-lt-mul_right (10 ^ k) g in
     omega arith
 
@@ -41,7 +41,7 @@ right_rounded d h k r =
     let l : 2 * (10 ^ d * (10 ^ k * 10)) ≤ 10 * h + 10 ^ k * 10 = omega (arith, nearest_reached h k, mul-le-mul_right (10 ^ k) (r.not_below k refl)) in
     record {
       reached = nearest_reached h (suc k);
-      not_passed = nearest-not_passed h (suc k);
+      not_passed = nearest_not_passed h (suc k);
       fits = r.enough;
       full = subst (λ (u : ℕ). 2 * (10 ^ d * u) ≤ 10 * h + u) (sym (pow-suc 10 k)) l;
     }
@@ -61,7 +61,7 @@ rounded_first c h u m some r = either (dec_le (10 ^ c) m)
 pub unit_rounded : (d h e : ℕ) → 2 * (10 ^ d * 10 ^ e) ≤ 10 * h + 10 ^ e → h + 10 ^ e < 2 * (10 ^ d * 10 ^ e) → Rounded d h (10 ^ e) (nearest h e)
 unit_rounded d h e full few =
     let l : nearest h e * 10 ^ e < 10 ^ d * 10 ^ e = omega (arith, nearest_reached h e) in
-    record { reached = nearest_reached h e; not_passed = nearest-not_passed h e; fits = lt_of_mul-lt-mul_right (10 ^ e) l; full = full }
+    record { reached = nearest_reached h e; not_passed = nearest_not_passed h e; fits = lt_of_mul-lt-mul_right (10 ^ e) l; full = full }
 
 -- Digits below a place do not matter, if those above it are enough.
 pub lift : (d h c u m : ℕ) → 0 < c → Rounded d (h / c) u m → Rounded d h (u * c) m

@@ -17,17 +17,17 @@ use Rattle.rules.proofs.Rounded.{rounded_nearest, rounded_right, rounded_some, r
 
 -- The exponent is judged on the place of the rounded digits.
 module _ (f : Form) (s m e : ℕ) where
-  pub placed-within : f.exponents ≤ e → e < 2 * f.exponents → placed f s m e ≡ value s m (e - f.exponents)
+  pub placed_within : f.exponents ≤ e → e < 2 * f.exponents → placed f s m e ≡ value s m (e - f.exponents)
   unfolding placed
-  placed-within l g = rw (le-leb f.exponents e l, lt-ltb e (2 * f.exponents) g)
+  placed_within l g = rw (le-leb f.exponents e l, lt-ltb e (2 * f.exponents) g)
 
   pub placed_below : e < f.exponents → placed f s m e ≡ outside
   unfolding placed
   placed_below l = rw (lt-leb f.exponents e l)
 
-  pub placed-above : 2 * f.exponents ≤ e → placed f s m e ≡ outside
+  pub placed_above : 2 * f.exponents ≤ e → placed f s m e ≡ outside
   unfolding placed
-  placed-above l = rw (le-leb f.exponents e (omega arith), le-ltb e (2 * f.exponents) l)
+  placed_above l = rw (le-leb f.exponents e (omega arith), le-ltb e (2 * f.exponents) l)
 
 module _ (f : Form) (s h : ℕ) where
   pub settled_none : h ≡ 0 → settled f s h ≡ nought
@@ -47,12 +47,12 @@ module _ (f : Form) (s h : ℕ) where
       either (no g) =
           let l : 4 * f.exponents < e = lt_of_not-le g in
           let w : place_in f h ≡ 4 * f.exponents = place_beyond f.digits h (4 * f.exponents) e r l in
-          settled_some some ∙ placed-above f s (nearest h (place_in f h)) (place_in f h) (omega arith) ∙ sym (placed-above f s (nearest h e) e (omega arith))
+          settled_some some ∙ placed_above f s (nearest h (place_in f h)) (place_in f h) (omega arith) ∙ sym (placed_above f s (nearest h e) e (omega arith))
 
   -- and it is no zero, but for no halves
-  pub settled-zero : settled f s h ≡ nought → 0 < h → ⊥
+  pub settled_zero : settled f s h ≡ nought → 0 < h → ⊥
   unfolding placed
-  settled-zero i some = by_low (leb f.exponents e) (ltb e (2 * f.exponents)) (sym (settled_some some) ∙ i)
+  settled_zero i some = by_low (leb f.exponents e) (ltb e (2 * f.exponents)) (sym (settled_some some) ∙ i)
     where
       e : ℕ
       e = place_in f h

@@ -28,7 +28,7 @@ use Rattle.rules.specs.declared.Operation.{Operation}
 use Rattle.rules.specs.declared.Operation.TheVariants.{Reckon, Move, Go, Loop, Change, Read, Pch, Trace, MoveBlock, Compare}
 use Rattle.rules.specs.declared.Going.{Going}
 use Rattle.rules.specs.declared.Going.TheVariants.{UncStop, CondStop, TrSgn, TrExp, Tr, TrSubr, Noop}
-use Rattle.rules.proofs.Results.{Fits as IsWord, reckoned-fits}
+use Rattle.rules.proofs.Results.{Fits as IsWord, reckoned_fits}
 use Rattle.rules.proofs.Tails.{Tail}
 use Rattle.rules.proofs.SoundChanges.{Sound}
 use Rattle.rules.proofs.SoundOrders.{step_sound}
@@ -75,7 +75,7 @@ module _ (i : Inputs) where
   unfolding performed punched
   performed_shows m (Reckon r) a b c h =
       reckoning_shows (stops_by_loss i r (word_at m.cells a) (word_at m.cells b)) m c (reckoned_by r (word_at m.cells a) (word_at m.cells b))
-      (reckoned-fits r (word_at m.cells a) (word_at m.cells b))
+      (reckoned_fits r (word_at m.cells a) (word_at m.cells b))
   performed_shows m Move a b c h = omega arith
   performed_shows m (Go g) a b c h = going_shows m g b c h
   performed_shows m (Loop x y z) a b c h = omega arith

@@ -16,7 +16,7 @@ use Rattle.rules.specs.Running.{box_fits, state_fits}
 use Rattle.rules.specs.declared.Cell.{Cell}
 use Rattle.rules.specs.declared.Cell.TheVariants.{Foreign, Owned}
 use Rattle.rules.specs.declared.State.{State}
-use Rattle.rules.proofs.Tests.{both_first, both-second}
+use Rattle.rules.proofs.Tests.{both_first, both_second}
 
 -- ---- cells
 
@@ -30,7 +30,7 @@ unfolding words_fit
 all_words [] e a = omega arith
 all_words (Foreign ∷ v) e zero = omega arith
 all_words (Owned w ∷ v) e zero = leb-true w 19999999999 (both_first (is_word w) (words_fit v) e)
-all_words (c ∷ v) e (suc a) = all_words v (both-second (word_fits c) (words_fit v) e) a
+all_words (c ∷ v) e (suc a) = all_words v (both_second (word_fits c) (words_fit v) e) a
 
 pub words_fit_lem : (v : List Cell) → ((a : ℕ) → word_at v a ≤ 19999999999) → words_fit v ≡ true
 unfolding words_fit
@@ -90,27 +90,27 @@ module _ (v : List Cell) (deck : List ℕ) (behind : ℕ) (s : State) (budget : 
   pub steady_from : state_fits v deck behind s budget ≡ true → (budget ≤ 999999) × Steady deck behind s × (is_owned (cell_at v 0) ≡ true)
   unfolding state_fits
   steady_from e =
-      let e₁ = both-second (leb budget 999999) _ e in
-      let e₂ = both-second (leb s.location 1000) _ e₁ in
-      let e₃ = both-second (box_fits s) _ e₂ in
-      let e₄ = both-second (leb s.counter 9999) _ e₃ in
-      let e₅ = both-second (leb s.problem 999) _ e₄ in
-      let e₆ = both-second (leb s.mode 1) _ e₅ in
-      let e₇ = both-second (leb s.tracing 1) _ e₆ in
-      let e₈ = both-second (leb s.tracing s.mode) _ e₇ in
+      let e₁ = both_second (leb budget 999999) _ e in
+      let e₂ = both_second (leb s.location 1000) _ e₁ in
+      let e₃ = both_second (box_fits s) _ e₂ in
+      let e₄ = both_second (leb s.counter 9999) _ e₃ in
+      let e₅ = both_second (leb s.problem 999) _ e₄ in
+      let e₆ = both_second (leb s.mode 1) _ e₅ in
+      let e₇ = both_second (leb s.tracing 1) _ e₆ in
+      let e₈ = both_second (leb s.tracing s.mode) _ e₇ in
       let box = both_first (box_fits s) _ e₂ in
-      let rest = both-second (leb (count_a s) 999) _ box in (
+      let rest = both_second (leb (count_a s) 999) _ box in (
         leb-true budget 999999 (both_first (leb budget 999999) _ e),
         record {
           location = leb-true s.location 1000 (both_first (leb s.location 1000) _ e₁);
           of_a_lem = leb-true (count_a s) 999 (both_first (leb (count_a s) 999) _ box);
           of_b_lem = leb-true (count_b s) 999 (both_first (leb (count_b s) 999) _ rest);
-          of_c = leb-true (count_c s) 999 (both-second (leb (count_b s) 999) _ rest);
+          of_c = leb-true (count_c s) 999 (both_second (leb (count_b s) 999) _ rest);
           counter = leb-true s.counter 9999 (both_first (leb s.counter 9999) _ e₃);
           problem = leb-true s.problem 999 (both_first (leb s.problem 999) _ e₄);
           mode = leb-true s.mode 1 (both_first (leb s.mode 1) _ e₅);
           tracing = leb-true s.tracing s.mode (both_first (leb s.tracing s.mode) _ e₇);
-          reader = both-second (is_owned (cell_at v 0)) _ e₈;
+          reader = both_second (is_owned (cell_at v 0)) _ e₈;
         },
         both_first (is_owned (cell_at v 0)) _ e₈,
       )

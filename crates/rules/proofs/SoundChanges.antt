@@ -25,7 +25,7 @@ use Rattle.rules.specs.declared.Tracing.{Tracing}
 use Rattle.rules.specs.declared.Tracing.TheVariants.{StartTr, StopTr, StTrEras}
 use Rattle.rules.proofs.Results.{Fits as IsWord}
 use Rattle.rules.proofs.Decks.{cards_end, data_at, data_next}
-use Rattle.rules.proofs.Tails.{Tail, at-end, one_more}
+use Rattle.rules.proofs.Tails.{Tail, at_end, one_more}
 use Rattle.rules.proofs.Sound.{Cells, cells_stored, Steady}
 use Rattle.rules.proofs.BlockMoves.{moved_sound}
 
@@ -40,9 +40,9 @@ one_of : (t : Bool) (x y k : ℕ) → x ≤ k → y ≤ k → pick t x y ≤ k
 one_of true x y k p q = p
 one_of false x y k p q = q
 
-raise-fits : (x : Bool) (n k : ℕ) → n ≤ 999 → named x n ≤ k → k ≤ 999 → raise x n ≤ 999
-raise-fits true n k f g l = omega arith
-raise-fits false n k f g l = f
+raise_fits : (x : Bool) (n k : ℕ) → n ≤ 999 → named x n ≤ k → k ≤ 999 → raise x n ≤ 999
+raise_fits true n k f g l = omega arith
+raise_fits false n k f g l = f
 
 -- PCH moves no location
 pub punched_location : (j : ℕ) (m : Machine) (b n : ℕ) → (cards_punched j m b n).state.location ≡ m.state.location
@@ -71,7 +71,7 @@ words_stored_lem d l (suc n) f h = cells_stored (l + n) _ (f n (omega arith)) (w
 
 pub cards_stored_lem : (deck : List ℕ) (at end : ℕ) {v : List Cell} → Tail deck at → Cells v → Cells (cards_stored end (data_from deck at) v)
 unfolding cards_stored data_in
-cards_stored_lem deck at end (at-end a l) h = rw (ap data_in (cards_end deck at (omega arith))) h
+cards_stored_lem deck at end (at_end a l) h = rw (ap data_in (cards_end deck at (omega arith))) h
 cards_stored_lem deck at end {v} (one_more a {location = location} {words = words} {size = size} q t) h =
     rw (data_next deck at q)
     (go (ltb at end) (cards_stored_lem deck (at + size) end t (words_stored_lem (drop at deck) location words (data_at deck at q).are_words h)))
@@ -206,9 +206,9 @@ module _ {deck : List ℕ} {behind : ℕ} where
       let f : max p (max q r) < b = ltb-true (max p (max q r)) b e in
       goes c (omega arith)
       (counts (raise x (count_a m.state)) (raise y (count_b m.state)) (raise z (count_c m.state))
-      (raise-fits x (count_a m.state) b h.state.of_a_lem (omega arith) j)
-      (raise-fits y (count_b m.state) b h.state.of_b_lem (omega arith) j)
-      (raise-fits z (count_c m.state) b h.state.of_c (omega arith) j) h)
+      (raise_fits x (count_a m.state) b h.state.of_a_lem (omega arith) j)
+      (raise_fits y (count_b m.state) b h.state.of_b_lem (omega arith) j)
+      (raise_fits z (count_c m.state) b h.state.of_c (omega arith) j) h)
   loops m x y z b c j k l h false e = goes_on l (counts 0 0 0 (omega arith) (omega arith) (omega arith) h)
 
   pub changes : (m : Machine) (b : ℕ) (r : Reckoned) → IsWord r → m.state.location ≤ 999 → Sound deck behind m

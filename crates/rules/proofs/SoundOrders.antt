@@ -25,9 +25,9 @@ use Rattle.rules.specs.declared.Built.{Built}
 use Rattle.rules.specs.declared.Built.TheVariants.{As, No}
 use Rattle.rules.specs.declared.Operation.{Operation}
 use Rattle.rules.specs.declared.Operation.TheVariants.{Reckon, Move, Go, Loop, Change, Read, Pch, Trace, MoveBlock, Compare}
-use Rattle.rules.proofs.Tests.{both-second}
-use Rattle.rules.proofs.Results.{reckoned-fits}
-use Rattle.rules.proofs.Changes.{changed-fits}
+use Rattle.rules.proofs.Tests.{both_second}
+use Rattle.rules.proofs.Results.{reckoned_fits}
+use Rattle.rules.proofs.Changes.{changed_fits}
 use Rattle.rules.proofs.Tails.{Tail}
 use Rattle.rules.proofs.Readers.{tail_from, read_leaves}
 use Rattle.rules.proofs.SoundChanges.{Sound, cards_stored_lem, punched_location, either_sound, goes_on, stores, sends, reckons, goings, loops, changes, compares, punches, moves, retraces, reads_to}
@@ -49,7 +49,7 @@ module _ (i : Inputs) (behind : ℕ) (tail : Tail i.deck behind) where
   unfolding performed punched
   performs m (Reckon r) a b c j k l h =
       reckons (stops_by_loss i r (word_at m.cells a) (word_at m.cells b)) m c (reckoned_by r (word_at m.cells a) (word_at m.cells b))
-      (reckoned-fits r (word_at m.cells a) (word_at m.cells b)) l h
+      (reckoned_fits r (word_at m.cells a) (word_at m.cells b)) l h
   performs m Move a b c j k l h =
       let w : ℕ = word_at m.cells b in
       goes_on l (stores 0 w (h.cells.words b) (stores c w (h.cells.words b) h))
@@ -57,7 +57,7 @@ module _ (i : Inputs) (behind : ℕ) (tail : Tail i.deck behind) where
   performs m (Loop x y z) a b c j k l h = loops m x y z b c j k l h (ltb (largest m.state x y z) b) refl
   performs m (Change k x) a b c j n l h =
       let w : ℕ = word_at m.cells b in
-      changes m b (changed_word i.requests.sums_carry k x w c) (changed-fits i.requests.sums_carry k x w c (h.cells.words b) n) l h
+      changes m b (changed_word i.requests.sums_carry k x w c) (changed_fits i.requests.sums_carry k x w c (h.cells.words b) n) l h
   performs m Read a b c j k l h = reads m b c l (judged_from i.deck m.state.reader b c) refl h
   performs m Pch a b c j k l h =
       let n : ℕ = c + 1 - b in
@@ -102,7 +102,7 @@ module _ (i : Inputs) (behind : ℕ) (tail : Tail i.deck behind) where
           → Sound i.deck behind (pick t (fetched i m (cell_at m.cells m.state.location)) (undone BadAddress m)).machine
       by_place true e =
           fetches m (cell_at m.cells m.state.location)
-          (leb-true m.state.location 999 (both-second (leb 1 m.state.location) (leb m.state.location 999) e)) h
+          (leb-true m.state.location 999 (both_second (leb 1 m.state.location) (leb m.state.location 999) e)) h
       by_place false e = h
 
   pub run_sound : (k : ℕ) (m : Machine) (n : ℕ) → Sound i.deck behind m → Sound i.deck behind (run_from i k m n).machine

@@ -23,9 +23,9 @@ module _ (f : Form) (s x t y : ℕ) where
   unfolding sum
   sum_first i l = rw (ne_eqb s t i, le-leb y x l)
 
-  pub sum-second : (s ≡ t → ⊥) → x < y → sum f s x t y ≡ settled f t (fraction (y - x) 1)
+  pub sum_second : (s ≡ t → ⊥) → x < y → sum f s x t y ≡ settled f t (fraction (y - x) 1)
   unfolding sum
-  sum-second i l = rw (ne_eqb s t i, lt-leb y x l)
+  sum_second i l = rw (ne_eqb s t i, lt-leb y x l)
 
 -- two equal magnitudes of two signs leave nothing
 sum_nothing : (f : Form) (s x y : ℕ) → x ≤ y → settled f s (fraction (x - y) 1) ≡ Settled.nought
@@ -51,8 +51,8 @@ sum_swaps f s x t y = by_sign (eqb s t) refl
             let u : y ≤ x = leb-true y x p in
             let v : x ≤ y = leb-true x y q in
             sum_first f s x t y i u ∙ sum_nothing f s x y v ∙ sym (sum_nothing f t y x u) ∙ sym (sum_first f t y s x j v)
-        by_size true p false q = sum_first f s x t y i (leb-true y x p) ∙ sym (sum-second f t y s x j (leb-false x y q))
-        by_size false p true q = sum-second f s x t y i (leb-false y x p) ∙ sym (sum_first f t y s x j (leb-true x y q))
+        by_size true p false q = sum_first f s x t y i (leb-true y x p) ∙ sym (sum_second f t y s x j (leb-false x y q))
+        by_size false p true q = sum_second f s x t y i (leb-false y x p) ∙ sym (sum_first f t y s x j (leb-true x y q))
         by_size false p false q =
             let u : x < y = leb-false y x p in
             let v : y < x = leb-false x y q in
@@ -85,7 +85,7 @@ module _ (f : Form) (s m x t n y : ℕ) (order : y ≤ x) where
   pub second_at : (s ≡ t → ⊥) → m * 10 ^ (x - y) < n → sum_at f s m x t n y ≡ settled f t (fraction ((n - m * 10 ^ (x - y)) * 10 ^ (y + f.exponents)) 1)
   second_at i l =
       let g : m * 10 ^ (x + f.exponents) < n * 10 ^ (y + f.exponents) = rw aligned (mul-lt-mul_of_pos_right l (ten_above (y + f.exponents))) in
-      sum-second f s (m * 10 ^ (x + f.exponents)) t (n * 10 ^ (y + f.exponents)) i g
+      sum_second f s (m * 10 ^ (x + f.exponents)) t (n * 10 ^ (y + f.exponents)) i g
       ∙ ap (λ (v : ℕ). settled f t (fraction v 1)) (ap (λ (v : ℕ). n * 10 ^ (y + f.exponents) - v) aligned ∙ difference n (m * 10 ^ (x - y)) (10 ^ (y + f.exponents)))
 
   -- an operand of less than a twentieth of the other's last place changes no digit

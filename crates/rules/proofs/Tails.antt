@@ -76,7 +76,7 @@ no_end (k ∷ d) l e = absurd (subst Some e (card_some k d))
 -- ---- data cards from a place on, one behind the other up to the deck's end
 
 pub data Tail (deck : List ℕ) : ℕ → Type 0 where
-  at-end : (at : ℕ) → at ≡ length deck → Tail deck at
+  at_end : (at : ℕ) → at ≡ length deck → Tail deck at
   one_more :
       (at : ℕ) {number location words problem size : ℕ} → card_at deck at ≡ Data number location words problem size → Tail deck (at + size)
       → Tail deck at
@@ -116,7 +116,7 @@ module _ (deck : List ℕ) (at x o p behind order problem : ℕ) (inside : at < 
 no_more : (deck : List ℕ) (at x o p behind order problem : ℕ) → at ≡ length deck
     → checked_from (Good x o p) (cards_from deck at) ≡ Good behind order problem → (x ≡ behind) × Tail deck at
 unfolding checked_from
-no_more deck at x o p behind order problem l e = (same_behind (rw (cards_end deck at (omega arith)) at e), at-end at l)
+no_more deck at x o p behind order problem l e = (same_behind (rw (cards_end deck at (omega arith)) at e), at_end at l)
 
 behind_first : (deck : List ℕ) (n at x o p behind order problem : ℕ) → length deck ≤ at + n → at ≤ length deck
     → checked_from (Good x o p) (cards_from deck at) ≡ Good behind order problem → (x ≡ behind) × Tail deck at

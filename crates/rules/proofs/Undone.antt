@@ -29,73 +29,73 @@ use Rattle.rules.specs.declared.Operation.{Operation}
 use Rattle.rules.specs.declared.Operation.TheVariants.{Reckon, Move, Go, Loop, Change, Read, Pch, Trace, MoveBlock, Compare}
 use Rattle.rules.specs.declared.Going.{Going}
 use Rattle.rules.specs.declared.Going.TheVariants.{UncStop, CondStop, TrSgn, TrExp, Tr, TrSubr, Noop}
-use Rattle.rules.proofs.Tests.{false-true}
+use Rattle.rules.proofs.Tests.{false_true}
 
 -- if the order is to be tried again, the machine is as it was
 abbrev pub Stays : Machine → Answer → Type 0
 Stays m x = tries_again x.outcome ≡ true → x.machine ≡ m
 
-pick-stays : (m : Machine) (t : Bool) (x y : Answer) → Stays m x → Stays m y → Stays m (pick t x y)
-pick-stays m true x y p q = p
-pick-stays m false x y p q = q
+pick_stays : (m : Machine) (t : Bool) (x y : Answer) → Stays m x → Stays m y → Stays m (pick t x y)
+pick_stays m true x y p q = p
+pick_stays m false x y p q = q
 
-reckoned-stays : (t : Bool) (m : Machine) (c : ℕ) (r : Reckoned) → Stays m (reckoned t m c r)
-reckoned-stays true m c (Result w) = false-true
-reckoned-stays false m c (Result w) = false-true
-reckoned-stays t m c (Refused r) = λ e. refl
+reckoned_stays : (t : Bool) (m : Machine) (c : ℕ) (r : Reckoned) → Stays m (reckoned t m c r)
+reckoned_stays true m c (Result w) = false_true
+reckoned_stays false m c (Result w) = false_true
+reckoned_stays t m c (Refused r) = λ e. refl
 
-changed-stays : (m : Machine) (b : ℕ) (r : Reckoned) → Stays m (changed m b r)
-changed-stays m b (Result w) = false-true
-changed-stays m b (Refused r) = λ e. refl
+changed_stays : (m : Machine) (b : ℕ) (r : Reckoned) → Stays m (changed m b r)
+changed_stays m b (Result w) = false_true
+changed_stays m b (Refused r) = λ e. refl
 
-cond-stays : (t : Bool) (m : Machine) (b c : ℕ) → Stays m (cond_stopped t m b c)
-cond-stays true m b c = false-true
-cond-stays false m b c = false-true
+cond_stays : (t : Bool) (m : Machine) (b c : ℕ) → Stays m (cond_stopped t m b c)
+cond_stays true m b c = false_true
+cond_stays false m b c = false_true
 
 read_stays : (i : Inputs) (m : Machine) (j : Judged) → Stays m (read i m j)
-read_stays i m (Fits end) = false-true
+read_stays i m (Fits end) = false_true
 read_stays i m (Fails r) = λ e. refl
 
-punched-stays : (i : Inputs) (m : Machine) (b n : ℕ) → Stays m (punched i m b n)
+punched_stays : (i : Inputs) (m : Machine) (b n : ℕ) → Stays m (punched i m b n)
 unfolding punched
-punched-stays i m b n =
-    pick-stays m (leb (length m.sent + punch_size n) i.room) (done (onward (cards_punched n m b n))) (undone NoRoom m) false-true (λ e. refl)
+punched_stays i m b n =
+    pick_stays m (leb (length m.sent + punch_size n) i.room) (done (onward (cards_punched n m b n))) (undone NoRoom m) false_true (λ e. refl)
 
-gone-stays : (i : Inputs) (m : Machine) (g : Going) (b c : ℕ) → Stays m (gone i m g b c)
+gone_stays : (i : Inputs) (m : Machine) (g : Going) (b c : ℕ) → Stays m (gone i m g b c)
 unfolding gone
-gone-stays i m UncStop b c = λ e. refl
-gone-stays i m CondStop b c = cond-stays i.switches.stop m b c
-gone-stays i m TrSgn b c = false-true
-gone-stays i m TrExp b c = false-true
-gone-stays i m Tr b c = false-true
-gone-stays i m TrSubr b c = false-true
-gone-stays i m Noop b c = false-true
+gone_stays i m UncStop b c = λ e. refl
+gone_stays i m CondStop b c = cond_stays i.switches.stop m b c
+gone_stays i m TrSgn b c = false_true
+gone_stays i m TrExp b c = false_true
+gone_stays i m Tr b c = false_true
+gone_stays i m TrSubr b c = false_true
+gone_stays i m Noop b c = false_true
 
-pub performed-stays : (i : Inputs) (m : Machine) (o : Operation) (a b c : ℕ) → Stays m (performed i m o a b c)
+pub performed_stays : (i : Inputs) (m : Machine) (o : Operation) (a b c : ℕ) → Stays m (performed i m o a b c)
 unfolding performed
-performed-stays i m (Reckon r) a b c =
-    reckoned-stays (stops_by_loss i r (word_at m.cells a) (word_at m.cells b)) m c (reckoned_by r (word_at m.cells a) (word_at m.cells b))
-performed-stays i m Move a b c = false-true
-performed-stays i m (Go g) a b c = gone-stays i m g b c
-performed-stays i m (Loop x y z) a b c = false-true
-performed-stays i m (Change k x) a b c = changed-stays m b (changed_word i.requests.sums_carry k x (word_at m.cells b) c)
-performed-stays i m Read a b c = read_stays i m (judged_from i.deck m.state.reader b c)
-performed-stays i m Pch a b c = punched-stays i m b (c + 1 - b)
-performed-stays i m (Trace t) a b c = false-true
-performed-stays i m MoveBlock a b c = false-true
-performed-stays i m (Compare x) a b c = false-true
+performed_stays i m (Reckon r) a b c =
+    reckoned_stays (stops_by_loss i r (word_at m.cells a) (word_at m.cells b)) m c (reckoned_by r (word_at m.cells a) (word_at m.cells b))
+performed_stays i m Move a b c = false_true
+performed_stays i m (Go g) a b c = gone_stays i m g b c
+performed_stays i m (Loop x y z) a b c = false_true
+performed_stays i m (Change k x) a b c = changed_stays m b (changed_word i.requests.sums_carry k x (word_at m.cells b) c)
+performed_stays i m Read a b c = read_stays i m (judged_from i.deck m.state.reader b c)
+performed_stays i m Pch a b c = punched_stays i m b (c + 1 - b)
+performed_stays i m (Trace t) a b c = false_true
+performed_stays i m MoveBlock a b c = false_true
+performed_stays i m (Compare x) a b c = false_true
 
-allowed-stays : (i : Inputs) (m : Machine) (o : Operation) (a b c : ℕ) (k : Checked) → Stays m (allowed i m o a b c k)
-allowed-stays i m o a b c Passes = performed-stays i m o a b c
-allowed-stays i m o a b c (Refuses r) = λ e. refl
+allowed_stays : (i : Inputs) (m : Machine) (o : Operation) (a b c : ℕ) (k : Checked) → Stays m (allowed i m o a b c k)
+allowed_stays i m o a b c Passes = performed_stays i m o a b c
+allowed_stays i m o a b c (Refuses r) = λ e. refl
 
 as_stays : (i : Inputs) (m : Machine) (a b c : ℕ) (k : Built) → Stays m (obeyed_as i m a b c k)
 as_stays i m a b c No = λ e. refl
-as_stays i m a b c (As o k) = allowed-stays i m o a b c (checked k m.cells a b c)
+as_stays i m a b c (As o k) = allowed_stays i m o a b c (checked k m.cells a b c)
 
-pub obeyed-stays : (i : Inputs) (m : Machine) (w : ℕ) → Stays m (obeyed i m w)
+pub obeyed_stays : (i : Inputs) (m : Machine) (w : ℕ) → Stays m (obeyed i m w)
 unfolding obeyed
-obeyed-stays i m w =
+obeyed_stays i m w =
     as_stays i m (a_in w) (b_in w) (c_in w) (lookup (code_done (is_traced m.state) w) codes)
 
 abbrev Leaves : Machine → Answer → Type 0
@@ -113,8 +113,8 @@ traced_leaves i m w q =
     pick_leaves m (is_tracing m.state)
     (pick (leb (length m.sent + trace_size) i.room) (obeyed i (trace_sent m w w') w') (undone NoRoom m)) (obeyed i m w')
     (pick_leaves m (leb (length m.sent + trace_size) i.room) (obeyed i (trace_sent m w w') w') (undone NoRoom m)
-    (λ e. inr (w, q, obeyed-stays i (trace_sent m w w') w' e)) (λ e. inl refl))
-    (λ e. inl (obeyed-stays i m w' e))
+    (λ e. inr (w, q, obeyed_stays i (trace_sent m w w') w' e)) (λ e. inl refl))
+    (λ e. inl (obeyed_stays i m w' e))
 
 fetched_leaves : (i : Inputs) (m : Machine) (x : Cell) → cell_at m.cells m.state.location ≡ x → Leaves m (fetched i m x)
 unfolding fetched

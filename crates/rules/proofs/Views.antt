@@ -12,7 +12,7 @@ use Rattle.rules.specs.Words.{both}
 use Rattle.rules.specs.Drum.{cell_of, view, store, mark_of, marks_of, number_over, overlay, marks_fit, words_fit, drum_fits}
 use Rattle.rules.specs.declared.Cell.{Cell}
 use Rattle.rules.specs.declared.Cell.TheVariants.{Foreign, Owned}
-use Rattle.rules.proofs.Tests.{both_first, both-second}
+use Rattle.rules.proofs.Tests.{both_first, both_second}
 
 -- ---- lengths
 
@@ -44,7 +44,7 @@ marks_view [] [] e h = refl
 marks_view [] (m ∷ ms) e h = let z : ⊥ = omega arith in absurd z
 marks_view (d ∷ ds) [] e h = let z : ⊥ = omega arith in absurd z
 marks_view (d ∷ ds) (m ∷ ms) e h =
-    simp (mark_again m d (leb-true m 1 (both_first (leb m 1) (marks_fit ms) h)), marks_view ds ms (suc_inj e) (both-second (leb m 1) (marks_fit ms) h))
+    simp (mark_again m d (leb-true m 1 (both_first (leb m 1) (marks_fit ms) h)), marks_view ds ms (suc_inj e) (both_second (leb m 1) (marks_fit ms) h))
 
 -- ---- what check 10 tells of the lent drum and marks
 
@@ -60,12 +60,12 @@ fit drum marks e =
     let sizes : Bool = both (eqb (length drum) 1000) (eqb (length marks) 1000) in
     let words : Bool = both (marks_fit marks) (words_fit (view drum marks)) in
     let l : sizes ≡ true = both_first sizes words e in
-    let r : words ≡ true = both-second sizes words e in
+    let r : words ≡ true = both_second sizes words e in
     record {
       drum_long = eqb-true (length drum) 1000 (both_first (eqb (length drum) 1000) (eqb (length marks) 1000) l);
-      marks_long = eqb-true (length marks) 1000 (both-second (eqb (length drum) 1000) (eqb (length marks) 1000) l);
+      marks_long = eqb-true (length marks) 1000 (both_second (eqb (length drum) 1000) (eqb (length marks) 1000) l);
       marks_fit_lem = both_first (marks_fit marks) (words_fit (view drum marks)) r;
-      words_fit_lem = both-second (marks_fit marks) (words_fit (view drum marks)) r;
+      words_fit_lem = both_second (marks_fit marks) (words_fit (view drum marks)) r;
     }
 
 pub marks_again : (drum marks : List ℕ) → Fit drum marks → marks_of (view drum marks) ≡ marks
@@ -89,12 +89,12 @@ number_kept : (c : Cell) (d : ℕ) → mark_of c ≡ 0 → number_over c d ≡ d
 number_kept Foreign d e = refl
 number_kept (Owned w) d e = let z : ⊥ = omega arith in absurd z
 
-pub overlay-kept : (ds : List ℕ) (v : List Cell) (i : ℕ) → get_or (marks_of v) i 0 ≡ 0 → get_or (overlay ds v) i 0 ≡ get_or ds i 0
+pub overlay_kept : (ds : List ℕ) (v : List Cell) (i : ℕ) → get_or (marks_of v) i 0 ≡ 0 → get_or (overlay ds v) i 0 ≡ get_or ds i 0
 unfolding overlay marks_of
-overlay-kept [] v i e = refl
-overlay-kept (d ∷ ds) [] i e = refl
-overlay-kept (d ∷ ds) (c ∷ v) zero e = number_kept c d e
-overlay-kept (d ∷ ds) (c ∷ v) (suc i) e = overlay-kept ds v i e
+overlay_kept [] v i e = refl
+overlay_kept (d ∷ ds) [] i e = refl
+overlay_kept (d ∷ ds) (c ∷ v) zero e = number_kept c d e
+overlay_kept (d ∷ ds) (c ∷ v) (suc i) e = overlay_kept ds v i e
 
 -- ---- what code that has the lent drum and marks needs to know
 
@@ -114,12 +114,12 @@ cell_again Foreign d = refl
 cell_again (Owned w) d = refl
 
 -- the cells that drum and marks show are the cells that were laid over
-pub view-again : (ds : List ℕ) (v : List Cell) → length ds ≡ length v → view (overlay ds v) (marks_of v) ≡ v
+pub view_again : (ds : List ℕ) (v : List Cell) → length ds ≡ length v → view (overlay ds v) (marks_of v) ≡ v
 unfolding view marks_of overlay
-view-again [] [] e = refl
-view-again [] (c ∷ v) e = let z : ⊥ = omega arith in absurd z
-view-again (d ∷ ds) [] e = let z : ⊥ = omega arith in absurd z
-view-again (d ∷ ds) (c ∷ v) e = simp (cell_again c d, view-again ds v (suc_inj e))
+view_again [] [] e = refl
+view_again [] (c ∷ v) e = let z : ⊥ = omega arith in absurd z
+view_again (d ∷ ds) [] e = let z : ⊥ = omega arith in absurd z
+view_again (d ∷ ds) (c ∷ v) e = simp (cell_again c d, view_again ds v (suc_inj e))
 
 -- a store
 pub marks_store : (v : List Cell) (a w : ℕ) → set (marks_of v) a 1 ≡ marks_of (store v a w)

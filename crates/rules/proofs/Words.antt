@@ -7,7 +7,7 @@ use native.Mathlib.Omega.{arith}
 use lib.Dec.{eqb, leb, lit<}
 use borrow.Author.Tests.{eqb-true, eqb-false, leb-true, ne_eqb}
 use Rattle.rules.specs.Words.{both, is_word, is_number, leading_in}
-use Rattle.rules.proofs.Tests.{both_first, both-second}
+use Rattle.rules.proofs.Tests.{both_first, both_second}
 use Rattle.rules.proofs.Nearest.{ten_rises}
 
 -- one that is not +0 has eight digits of which the first is not 0
@@ -21,7 +21,7 @@ number_full w h z =
     let b : both (is_word w) (leb 10000000 (leading_in w)) ≡ true = rw (ne_eqb w 0 z) at h in
     record {
       word = leb-true w 19999999999 (both_first (is_word w) (leb 10000000 (leading_in w)) b);
-      leading = leb-true 10000000 (leading_in w) (both-second (is_word w) (leb 10000000 (leading_in w)) b);
+      leading = leb-true 10000000 (leading_in w) (both_second (is_word w) (leb 10000000 (leading_in w)) b);
     }
 
 pub number_word : (w : ℕ) → is_number w ≡ true → w ≤ 19999999999

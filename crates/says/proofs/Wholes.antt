@@ -18,7 +18,7 @@ use Rattle.rules.specs.declared.Ending.TheVariants.{Ran, NotRun}
 use Rattle.rules.specs.declared.Making.{Making}
 use Rattle.rules.specs.declared.Making.TheVariants.{Made, UnfitDrum, UnfitNumber, Full}
 use Rattle.rules.proofs.Fields.{length_stop, width_small, length_line}
-use Rattle.rules.proofs.Tests.{false-true}
+use Rattle.rules.proofs.Tests.{false_true}
 use Rattle.card.specs.Written.{fits}
 use Rattle.says.specs.Told.{may_close, Closed}
 
@@ -34,7 +34,7 @@ by_fits : (t : Bool) (answer before after : List ℕ) (said : ℕ) → t ≡ tru
     → take said after ≡ answer
 unfolding over
 by_fits true answer before after said e q r = rw (q, r) (take-append_seam answer (drop (length answer) before))
-by_fits false answer before after said e q r = false-true e
+by_fits false answer before after said e q r = false_true e
 
 pub closes_whole : (e : Ending) (s : State) (count : ℕ) (before after : List ℕ) (said : ℕ) → may_close e s count ≡ true → 64 ≤ length before
     → Closed (may_close e s count) (closing e s count) before said after → take said after ≡ closing e s count

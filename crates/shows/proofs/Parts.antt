@@ -13,9 +13,9 @@ use Rattle.list.specs.declared.ends.Seen.{Seen}
 use Rattle.shows.specs.Parts.{may_be_cut, is_listed, listed_upto}
 use Rattle.shows.specs.declared.cards.Passed.{Passed}
 
-cut-false : (a c : Bool) → both a (pick true false c) ≡ false
-cut-false true c = refl
-cut-false false c = refl
+cut_false : (a c : Bool) → both a (pick true false c) ≡ false
+cut_false true c = refl
+cut_false false c = refl
 
 none_false : (a b e : Bool) → both a (pick b false (both false e)) ≡ false
 none_false true true e = refl
@@ -64,7 +64,7 @@ module _ (d : List ℕ) (last : Bool) (s : Seen) (at : ℕ) where
     pub ends_cut : may_be_cut (length d - at) last ≡ true → here ≡ whole
     unfolding is_listed size
     ends_cut e =
-        ends (ap (λ (t : Bool). both (ltb at (length d)) (pick t false (both (ltb 0 size) (leb size (length d - at))))) e ∙ cut-false (ltb at (length d)) (both (ltb 0 size) (leb size (length d - at))))
+        ends (ap (λ (t : Bool). both (ltb at (length d)) (pick t false (both (ltb 0 size) (leb size (length d - at))))) e ∙ cut_false (ltb at (length d)) (both (ltb 0 size) (leb size (length d - at))))
 
     pub ends_none : size_met s (drop at d) ≡ 0 → here ≡ whole
     unfolding is_listed

@@ -53,8 +53,8 @@ one_reckoned_word κs a x y s t p q = p ∙ sym q
 pub one_deck_number : OneResult 0 deck-number-kinds.ps deck-number-kinds.r deck-number.Post
 one_deck_number κs a x y s t p q = p ∙ sym q
 
-pub one_deck-place : OneResult 0 deck-place-kinds.ps deck-place-kinds.r deck-place.Post
-one_deck-place κs a x y s t p q = p ∙ sym q
+pub one_deck_place : OneResult 0 deck-place-kinds.ps deck-place-kinds.r deck-place.Post
+one_deck_place κs a x y s t p q = p ∙ sym q
 
 pub one_bar_number : OneResult 0 bar-number-kinds.ps bar-number-kinds.r bar-number.Post
 one_bar_number κs a x y s t p q = p ∙ sym q

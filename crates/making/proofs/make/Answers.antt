@@ -6,7 +6,7 @@ use borrow.Author.Tests.{not-true, not-false}
 use lib.ListN.{length}
 use Rattle.rules.specs.Drum.{view, drum_fits}
 use Rattle.rules.specs.Making.{MakeCall, numbers_fit}
-use Rattle.rules.proofs.MadeDecks.{in-range}
+use Rattle.rules.proofs.MadeDecks.{in_range_lem}
 use Rattle.making.proofs.Answers.{sound, drum_unfit, number_unfit, too_long, was_made}
 use Rattle.making.proofs.make.Goals as goal
 use Rattle.making.proofs.make.Goals.{Else-not-is_fit, Else-not-numbers_fit, Start}
@@ -43,7 +43,7 @@ returns-then-out-size c =
 
 pub write_deck-requires : goal.write_deck-requires
 write_deck-requires c =
-    record { sound = sound _ _ (fit (goal.at.write_deck-requires c).Else-not-is_fit); order_fits = in-range c.args.order c.args.problem (good (goal.at.write_deck-requires c).Else-not-numbers_fit); room_left = omega (arith, c.if-out-size.false, c.deck_size-size.ensures c.args.order c.args.problem) }
+    record { sound = sound _ _ (fit (goal.at.write_deck-requires c).Else-not-is_fit); order_fits = in_range_lem c.args.order c.args.problem (good (goal.at.write_deck-requires c).Else-not-numbers_fit); room_left = omega (arith, c.if-out-size.false, c.deck_size-size.ensures c.args.order c.args.problem) }
 
 pub returns : goal.returns
 unfolding call

@@ -18,13 +18,13 @@ unfolding number_in
 number_past d a zero h = refl
 number_past d a (suc n) h = ap₂ (λ (x b : ℕ). 10 * x + (b - 48)) (number_past d a n h) (get_or-eq_default d 0 (omega arith))
 
-word-past : (d : List ℕ) (a : ℕ) → length d ≤ a → word_in d a ≡ 0
+word_past : (d : List ℕ) (a : ℕ) → length d ≤ a → word_in d a ≡ 0
 unfolding word_in
-word-past d a h =
+word_past d a h =
     ap₂ (λ (x b : ℕ). x + pick (eqb b 45) 10000000000 0) (number_past d (a + 1) 10 (omega arith)) (get_or-eq_default d 0 h)
 
 pub returns-then-rest-i : goal.returns-then-rest-i
-returns-then-rest-i c = sym (word-past c.args.rest.now (8 + 11 * c.args.i) (omega arith))
+returns-then-rest-i c = sym (word_past c.args.rest.now (8 + 11 * c.args.i) (omega arith))
 
 pub returns-then-byte_at-eq45 : goal.returns-then-byte_at-eq45
 unfolding word_in

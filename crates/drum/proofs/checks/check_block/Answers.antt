@@ -7,19 +7,19 @@ use borrow.Author.Tests.{not-true, not-false, leb-true}
 use lib.Dec.{leb}
 use Rattle.rules.specs.Codes.{block_fits, owned_from}
 use Rattle.rules.specs.Drum.{view}
-use Rattle.rules.proofs.Tests.{both_first, both-second}
+use Rattle.rules.proofs.Tests.{both_first, both_second}
 use Rattle.drum.proofs.checks.check_block.Goals as goal
 use Rattle.drum.proofs.checks.check_block.Goals.{Else-not-block_fits}
 
-fits-is : (c : Else-not-block_fits) → (block_fits c.args.b c.args.c ≡ true)
-fits-is c =
+fits_is : (c : Else-not-block_fits) → (block_fits c.args.b c.args.c ≡ true)
+fits_is c =
     sym c.block_fits.ensures ∙ not-false _ c.if-not-block_fits.false-raw
 
 upward : (c : Else-not-block_fits) → ((1 ≤ c.args.b) × (c.args.b ≤ c.args.c))
 upward c =
     let b : ℕ = c.args.b in
     let d : ℕ = c.args.c in
-    (leb-true 1 b (both_first (leb 1 b) (leb b d) (fits-is c)), leb-true b d (both-second (leb 1 b) (leb b d) (fits-is c)))
+    (leb-true 1 b (both_first (leb 1 b) (leb b d) (fits_is c)), leb-true b d (both_second (leb 1 b) (leb b d) (fits_is c)))
 
 cells_of : (b d : ℕ) → b ≤ d → d + 1 - b ≡ d - b + 1
 cells_of b d l = omega arith
@@ -42,11 +42,11 @@ returns-then-all_owned c =
     let b : ℕ = c.args.b in
     let d : ℕ = c.args.c in
     let e : owned_from (view c.args.drum.now c.args.marks.now) b (d + 1 - b) ≡ true = rw (cells_of b d (upward (goal.at.returns-then-all_owned c).Else-not-block_fits).1) (sym c.all_owned.ensures ∙ c.if-all_owned.true) in
-    rw (fits-is (goal.at.returns-then-all_owned c).Else-not-block_fits, e)
+    rw (fits_is (goal.at.returns-then-all_owned c).Else-not-block_fits, e)
 
 pub returns : goal.returns
 returns c =
     let b : ℕ = c.args.b in
     let d : ℕ = c.args.c in
     let e : owned_from (view c.args.drum.now c.args.marks.now) b (d + 1 - b) ≡ false = rw (cells_of b d (upward (goal.at.returns c).Else-not-block_fits).1) (sym c.all_owned.ensures ∙ c.if-all_owned.false) in
-    rw (fits-is (goal.at.returns c).Else-not-block_fits, e)
+    rw (fits_is (goal.at.returns c).Else-not-block_fits, e)

@@ -6,7 +6,7 @@ use native.Mathlib.Omega.{arith}
 use lib.ListN.{length, take, drop, length-set}
 use lib.Seq.{paste-zero, drop-drop}
 use Rattle.file.specs.Files.{number_of}
-use Rattle.file.proofs.Files.{length_in, in-at}
+use Rattle.file.proofs.Files.{length_in, in_at}
 use Rattle.octets.proofs.Copies.{fill_more, fill_end}
 use Rattle.file.proofs.parts.fill_row.Goals as goal
 use Rattle.file.proofs.parts.fill_row.Invariants.{there}
@@ -28,7 +28,7 @@ loop-i-preserved c =
       fill_more _ _ _ (length_in _ _) l.invariant.2 c.number_at-x.result
           (c.number_at-x.ensures
           ∙ ap (λ (t : List ℕ). number_of (take 8 t)) (sym (drop-drop (8 * l.i) a.a a.bytes.now))
-          ∙ sym (in-at (length a.row.now) (drop a.a a.bytes.now) l.i (omega arith)))
+          ∙ sym (in_at (length a.row.now) (drop a.a a.bytes.now) l.i (omega arith)))
           (omega arith),
     )
 

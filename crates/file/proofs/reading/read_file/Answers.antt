@@ -5,25 +5,25 @@ use native.Mathlib.Omega.{arith}
 use lib.ListN.{length, take, drop}
 use Rattle.octets.proofs.Joins.{put_all, length_field}
 use Rattle.file.specs.Files.{row_in, drum_in, marks_in}
-use Rattle.file.proofs.Wholes.{whole_is, no_drum, no_marks_lem, file_is, not_whole, no_bytes, not-read, was_read}
+use Rattle.file.proofs.Wholes.{whole_is, no_drum, no_marks_lem, file_is, not_whole, no_bytes, not_read, was_read}
 use Rattle.file.proofs.reading.read_file.Goals as goal
 
 pub returns-then-drum-ne1000 : goal.returns-then-drum-ne1000
 returns-then-drum-ne1000 c =
     let a = c.args in
     let no = no_drum a.drum.now a.marks.now c.if-drum-ne1000.true in
-    not-read _ _ _ (not_whole a.drum.now a.marks.now a.bytes.now no) c.nothing.ensures
+    not_read _ _ _ (not_whole a.drum.now a.marks.now a.bytes.now no) c.nothing.ensures
 
 pub returns-then-marks-ne1000 : goal.returns-then-marks-ne1000
 returns-then-marks-ne1000 c =
     let a = c.args in
     let no = no_marks_lem a.drum.now a.marks.now c.if-marks-ne1000.true in
-    not-read _ _ _ (not_whole a.drum.now a.marks.now a.bytes.now no) c.nothing-then-marks-ne1000.ensures
+    not_read _ _ _ (not_whole a.drum.now a.marks.now a.bytes.now no) c.nothing-then-marks-ne1000.ensures
 
 pub returns-then-bytes-ne9072 : goal.returns-then-bytes-ne9072
 returns-then-bytes-ne9072 c =
     let a = c.args in
-    not-read _ _ _ (no_bytes a.drum.now a.marks.now a.bytes.now c.if-bytes-ne9072.true) c.nothing-then-bytes-ne9072.ensures
+    not_read _ _ _ (no_bytes a.drum.now a.marks.now a.bytes.now c.if-bytes-ne9072.true) c.nothing-then-bytes-ne9072.ensures
 
 pub returns : goal.returns
 unfolding drum_in marks_in

@@ -8,7 +8,7 @@ use borrow.Author.Rules.{rules}
 use borrow.Author.Tests.{not-true, not-false}
 use Rattle.rules.specs.Running.{RunCall}
 use Rattle.machine.specs.Lent.{call_of}
-use Rattle.l1.proofs.Rooms.{count_fits, written-fits, room_full, run-over, refill_took}
+use Rattle.l1.proofs.Rooms.{count_fits, written_fits, room_full, run_over, refill_took}
 use Rattle.l1.proofs.sessions.go_on.Goals as goal
 use Rattle.l1.proofs.sessions.go_on.Goals.{After-run-x}
 use Rattle.l1.proofs.sessions.go_on.Given.{Over}
@@ -29,14 +29,14 @@ overflow_add-count g c =
 pub send_cards-requires : goal.send_cards-requires
 send_cards-requires g c =
     let e : length c.run-x.new.out ≡ length c.loop-switches.out = search rules in
-    (refl, omega (arith, written-fits (call g (goal.at.send_cards-requires g c).After-run-x) c.run-x.ensures e, e))
+    (refl, omega (arith, written_fits (call g (goal.at.send_cards-requires g c).After-run-x) c.run-x.ensures e, e))
 
 pub returns-then-not-send_cards : goal.returns-then-not-send_cards
 returns-then-not-send_cards g c = λ e. absurd (true≢false (sym e))
 
 pub returns-then-not-may_refill : goal.returns-then-not-may_refill
 returns-then-not-may_refill g c =
-    λ e. run-over (call g (goal.at.returns-then-not-may_refill g c).After-run-x) c.run-x.ensures c.loop-switches.count c.loop-switches.invariant.0 _ (sym c.may_refill.ensures ∙ not-true _ c.if-not-may_refill.true-raw) c.loop-switches.invariant.6
+    λ e. run_over (call g (goal.at.returns-then-not-may_refill g c).After-run-x) c.run-x.ensures c.loop-switches.count c.loop-switches.invariant.0 _ (sym c.may_refill.ensures ∙ not-true _ c.if-not-may_refill.true-raw) c.loop-switches.invariant.6
 
 pub overflow_sub-left : goal.overflow_sub-left
 overflow_sub-left g c =

@@ -25,9 +25,9 @@ room start a at out l h =
     (omega (arith, start.requires, h.ends, m, upto_all (cells start) a (omega arith)), omega (arith, h.ends, m, upto_short (cells start) (a + 1)))
 
 -- and stands behind those before it
-next-line : {d l m : List ℕ} {at e : ℕ} (v : List Cell) (a : ℕ) → Put d 0 (lines_upto v a) at l → m ≡ splice at (line_of a (cell_at v a)) l
+next_line : {d l m : List ℕ} {at e : ℕ} (v : List Cell) (a : ℕ) → Put d 0 (lines_upto v a) at l → m ≡ splice at (line_of a (cell_at v a)) l
     → at + length (line_of a (cell_at v a)) ≡ e → e ≤ length d → Put d 0 (lines_upto v (a + 1)) e m
-next-line {d = d} {m = m} {e = e} v a h f r k =
+next_line {d = d} {m = m} {e = e} v a h f r k =
     subst (λ (l : List ℕ). Put d 0 l e m) (sym (upto_more v a)) (put_part (line_of a (cell_at v a)) (length (line_of a (cell_at v a))) h f refl r k)
 
 pub loop-address-init : goal.loop-address-init
@@ -47,7 +47,7 @@ loop-address-preserved c =
     let r = (room (goal.at.loop-address-preserved c).Start c.loop-address.address c.loop-address.at c.loop-address.out (omega arith) c.loop-address.invariant.2).0 in (
       omega arith,
       c.put_marked-at.auto.out ∙ c.loop-address.invariant.1,
-      next-line (cells (goal.at.loop-address-preserved c).Start) c.loop-address.address c.loop-address.invariant.2 c.put_marked-at.ensures.written (omega (arith, c.put_marked-at.ensures.size))
+      next_line (cells (goal.at.loop-address-preserved c).Start) c.loop-address.address c.loop-address.invariant.2 c.put_marked-at.ensures.written (omega (arith, c.put_marked-at.ensures.size))
           (omega (arith, r, c.put_marked-at.ensures.size)),
     )
 

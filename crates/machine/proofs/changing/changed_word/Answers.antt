@@ -8,8 +8,8 @@ use Rattle.machine.proofs.changing.changed_word.Goals as goal
 use Rattle.machine.proofs.changing.changed_word.Goals.{After-address_in-old, After-worth_of-worth}
 
 -- the shifted C, and the address that SET takes out
-shifted-c : (c : After-worth_of-worth) → (c.args.c * c.worth_of-worth.result ≤ 999000000)
-shifted-c c =
+shifted_c : (c : After-worth_of-worth) → (c.args.c * c.worth_of-worth.result ≤ 999000000)
+shifted_c c =
     shifted_small c.args.x c.args.c c.worth_of-worth.ensures c.requires.1
 
 taken : (c : After-address_in-old)
@@ -18,7 +18,7 @@ taken c =
     taken_small c.args.x c.args.w c.address_in-old.ensures c.worth_of-worth.ensures
 
 pub overflow_mul-n : goal.overflow_mul-n
-overflow_mul-n c = record { fits = omega (arith, shifted-c (goal.at.overflow_mul-n c).After-worth_of-worth) }
+overflow_mul-n c = record { fits = omega (arith, shifted_c (goal.at.overflow_mul-n c).After-worth_of-worth) }
 
 pub overflow_mul-part : goal.overflow_mul-part
 overflow_mul-part c = record { fits = omega (arith, (taken (goal.at.overflow_mul-part c).After-address_in-old).1) }
@@ -28,10 +28,10 @@ overflow_sub-put c = (taken (goal.at.overflow_sub-put c).After-address_in-old).0
 
 pub overflow_add-put : goal.overflow_add-put
 overflow_add-put c =
-    record { fits = omega (arith, c.requires.0, shifted-c (goal.at.overflow_add-put c).After-worth_of-worth) }
+    record { fits = omega (arith, c.requires.0, shifted_c (goal.at.overflow_add-put c).After-worth_of-worth) }
 
 pub overflow_add-sum : goal.overflow_add-sum
-overflow_add-sum c = record { fits = omega (arith, shifted-c (goal.at.overflow_add-sum c).After-worth_of-worth) }
+overflow_add-sum c = record { fits = omega (arith, shifted_c (goal.at.overflow_add-sum c).After-worth_of-worth) }
 
 pub returns-then-sum-gt9999999999 : goal.returns-then-sum-gt9999999999
 returns-then-sum-gt9999999999 c =
@@ -41,7 +41,7 @@ returns-then-sum-gt9999999999 c =
 
 pub overflow_add-more : goal.overflow_add-more
 overflow_add-more c =
-    record { fits = omega (arith, c.requires.0, shifted-c (goal.at.overflow_add-more c).After-worth_of-worth) }
+    record { fits = omega (arith, c.requires.0, shifted_c (goal.at.overflow_add-more c).After-worth_of-worth) }
 
 pub returns-then-digits-n : goal.returns-then-digits-n
 returns-then-digits-n c =

@@ -23,10 +23,10 @@ found c =
     found_at c.args.w c.requires.indexed c.parts_of-p.ensures.key_is c.slot_of-slot.ensures c.built_at.ensures
 
 -- the checks, by the word's own addresses
-at-parts : (c : After-parts_of-p) (k : Class)
+at_parts : (c : After-parts_of-p) (k : Class)
     → (placed k (view c.args.drum.now c.args.marks.now) (c.parts_of-p.result.key % 1000) c.parts_of-p.result.b c.parts_of-p.result.c
     ≡ placed k (view c.args.drum.now c.args.marks.now) (a_in c.args.w) (b_in c.args.w) (c_in c.args.w))
-at-parts c k =
+at_parts c k =
     let p = c.parts_of-p.ensures in
     (λ j. placed k (view c.args.drum.now c.args.marks.now) (p.key_is j % 1000) (p.b_is j) (p.c_is j))
 
@@ -51,7 +51,7 @@ pub returns-in-Refuses : goal.returns-in-Refuses
 returns-in-Refuses c =
     λ i l drum₀ out₀ m e h.
     obey_refused h i c.args.w c.in-As.o c.in-As.k (for_mode h i c.args.w (sym c.in-As.is ∙ found (goal.at.returns-in-Refuses c).After-built_at)) c.in-Refuses.r
-    (sym c.in-Refuses.is ∙ c.check-found.ensures ∙ at-parts (goal.at.returns-in-Refuses c).After-parts_of-p c.in-As.k)
+    (sym c.in-Refuses.is ∙ c.check-found.ensures ∙ at_parts (goal.at.returns-in-Refuses c).After-parts_of-p c.in-As.k)
 
 pub returns-in-Passes : goal.returns-in-Passes
 returns-in-Passes c =
@@ -60,6 +60,6 @@ returns-in-Passes c =
     let o = c.in-As.o in
     let r = c.perform in
     obey_done h i c.args.w o c.in-As.k (for_mode h i c.args.w (sym c.in-As.is ∙ found (goal.at.returns-in-Passes c).After-built_at))
-    (sym c.in-Passes.is ∙ c.check-found.ensures ∙ at-parts (goal.at.returns-in-Passes c).After-parts_of-p c.in-As.k)
+    (sym c.in-Passes.is ∙ c.check-found.ensures ∙ at_parts (goal.at.returns-in-Passes c).After-parts_of-p c.in-As.k)
     (subst (λ (y : Answer). Did drum₀ out₀ r.new.drum r.new.marks r.new.out r.new.row r.result y)
     (λ j. performed i m o (p.key_is j % 1000) (p.b_is j) (p.c_is j)) (r.ensures i l drum₀ out₀ m e h))

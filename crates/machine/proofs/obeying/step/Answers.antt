@@ -16,7 +16,7 @@ use Rattle.codes.specs.Slots.{Indexed}
 use Rattle.machine.specs.Lent.{Fitting, Did}
 use Rattle.machine.specs.Allowed.{ToldTo}
 use Rattle.machine.proofs.Shown.{ready, fitting}
-use Rattle.machine.proofs.Steps.{inside, step-zero, step_past, step_unmarked, step_sums, step-told}
+use Rattle.machine.proofs.Steps.{inside, step_zero, step_past, step_unmarked, step_sums, step_told}
 use Rattle.machine.proofs.obeying.step.Goals as goal
 use Rattle.machine.proofs.obeying.step.Goals.{Else-l-gt999, Else-not-order_fits, In-Owned}
 
@@ -34,14 +34,14 @@ word_fits : (c : In-Owned) → c.in-Owned.w ≤ 19999999999
 word_fits c =
     subst (λ (x : Cell). shown x ≤ 19999999999) (sym (mine c)) (ready c.requires.shown.shows.memory c.location-l.result)
 
-add-up : (c : Else-not-order_fits) → (order_fits (state_in c.args.row.now) c.in-Owned.w ≡ true)
-add-up c =
+add_up : (c : Else-not-order_fits) → (order_fits (state_in c.args.row.now) c.in-Owned.w ≡ true)
+add_up c =
     sym c.order_fits.ensures ∙ not-false _ c.if-not-order_fits.false-raw
 
 pub returns-then-l-eq0 : goal.returns-then-l-eq0
 returns-then-l-eq0 c =
     λ i l drum₀ out₀ m e h.
-    step-zero h i c.location-l.ensures c.if-l-eq0.true
+    step_zero h i c.location-l.ensures c.if-l-eq0.true
 
 pub returns-then-l-gt999 : goal.returns-then-l-gt999
 returns-then-l-gt999 c =
@@ -63,7 +63,7 @@ returns-then-not-order_fits c =
 
 pub as_done-x-requires : goal.as_done-x-requires
 as_done-x-requires c =
-    (fits (goal.at.as_done-x-requires c).Else-l-gt999, word_fits (goal.at.as_done-x-requires c).In-Owned, add-up (goal.at.as_done-x-requires c).Else-not-order_fits)
+    (fits (goal.at.as_done-x-requires c).Else-l-gt999, word_fits (goal.at.as_done-x-requires c).In-Owned, add_up (goal.at.as_done-x-requires c).Else-not-order_fits)
 
 pub tell-told-requires : goal.tell-told-requires
 tell-told-requires c =
@@ -77,7 +77,7 @@ obey-requires c =
 pub returns-in-Refuses : goal.returns-in-Refuses
 returns-in-Refuses c =
     λ i l drum₀ out₀ m e h.
-    step-told h i c.location-l.ensures c.if-l-eq0.false c.if-l-gt999.false (mine (goal.at.returns-in-Refuses c).In-Owned) (add-up (goal.at.returns-in-Refuses c).Else-not-order_fits) c.as_done-x.ensures.0
+    step_told h i c.location-l.ensures c.if-l-eq0.false c.if-l-gt999.false (mine (goal.at.returns-in-Refuses c).In-Owned) (add_up (goal.at.returns-in-Refuses c).Else-not-order_fits) c.as_done-x.ensures.0
     (subst (λ (r : Checked). ToldTo r i drum₀ out₀ c.args.drum.now c.args.marks.now c.tell-told.new.out c.tell-told.new.row m c.in-Owned.w c.as_done-x.result)
     c.in-Refuses.is (c.tell-told.ensures.comes i drum₀ out₀ m e h))
 
@@ -87,5 +87,5 @@ returns-in-Passes c =
     let r = c.obey in
     let t = subst (λ (r : Checked). ToldTo r i drum₀ out₀ c.args.drum.now c.args.marks.now c.tell-told.new.out c.tell-told.new.row m c.in-Owned.w c.as_done-x.result)
     c.in-Passes.is (c.tell-told.ensures.comes i drum₀ out₀ m e h) in
-    step-told h i c.location-l.ensures c.if-l-eq0.false c.if-l-gt999.false (mine (goal.at.returns-in-Passes c).In-Owned) (add-up (goal.at.returns-in-Passes c).Else-not-order_fits) c.as_done-x.ensures.0
+    step_told h i c.location-l.ensures c.if-l-eq0.false c.if-l-gt999.false (mine (goal.at.returns-in-Passes c).In-Owned) (add_up (goal.at.returns-in-Passes c).Else-not-order_fits) c.as_done-x.ensures.0
     (subst (λ (y : Answer). Did drum₀ out₀ r.new.drum r.new.marks r.new.out r.new.row r.result y) (sym t.2) (r.ensures i l drum₀ out₀ t.0 e t.1))

@@ -12,7 +12,7 @@ use Rattle.rules.specs.declared.Reckoned.TheVariants.{Result}
 use mathlib.Core.List.{List}
 use Rattle.drum.specs.Held.{Holds}
 use Rattle.rules.specs.declared.Outcome.TheVariants.{Undone}
-use Rattle.rules.proofs.Results.{reckoned-fits}
+use Rattle.rules.proofs.Results.{reckoned_fits}
 use Rattle.machine.proofs.Shown.{word_is, stays}
 use Rattle.machine.proofs.Stores.{fits_word}
 use Rattle.rules.proofs.Results.{Fits}
@@ -21,9 +21,9 @@ use Rattle.machine.proofs.reckoning.reckon_at.Goals as goal
 use Rattle.machine.proofs.reckoning.reckon_at.Goals.{After-reckon-q}
 
 -- the two words are the machine's
-first-is : (c : After-reckon-q) (drum₀ : List ℕ) (m : Machine) → (Holds drum₀ c.args.drum.now c.args.marks.now m.cells)
+first_is : (c : After-reckon-q) (drum₀ : List ℕ) (m : Machine) → (Holds drum₀ c.args.drum.now c.args.marks.now m.cells)
     → (c.word-x.result ≡ word_at m.cells c.args.a)
-first-is c drum₀ m h =
+first_is c drum₀ m h =
     word_is h c.args.a c.word-x.ensures
 
 second_is : (c : After-reckon-q) (drum₀ : List ℕ) (m : Machine) → (Holds drum₀ c.args.drum.now c.args.marks.now m.cells)
@@ -32,10 +32,10 @@ second_is c drum₀ m h =
     word_is h c.args.b c.word-y.ensures
 
 -- what is reckoned is reckoned of them
-of-cells : (c : After-reckon-q) (drum₀ : List ℕ) (m : Machine) → (Holds drum₀ c.args.drum.now c.args.marks.now m.cells)
+of_cells : (c : After-reckon-q) (drum₀ : List ℕ) (m : Machine) → (Holds drum₀ c.args.drum.now c.args.marks.now m.cells)
     → (c.reckon-q.result ≡ reckoned_by c.args.k (word_at m.cells c.args.a) (word_at m.cells c.args.b))
-of-cells c drum₀ m h =
-    c.reckon-q.ensures ∙ ap₂ (reckoned_by c.args.k) (first-is c drum₀ m h) (second_is c drum₀ m h)
+of_cells c drum₀ m h =
+    c.reckon-q.ensures ∙ ap₂ (reckoned_by c.args.k) (first_is c drum₀ m h) (second_is c drum₀ m h)
 
 -- the loss is that of the machine's words, and the switch that of its inputs
 stops_as : (i : Inputs) (t : Switches) (k : Reckoning) {x y x' y' : ℕ} (w : ℕ) → i.switches ≡ t → i.requests ≡ present → x ≡ x' → y ≡ y'
@@ -44,7 +44,7 @@ stops_as i t k w e f g h = rw (e, f, sym g, sym h)
 
 pub store_result-requires : goal.store_result-requires
 store_result-requires c =
-    (c.requires.0, c.requires.1, fits_word c.reckon-q.result c.in-Result.w c.in-Result.is (subst Fits (sym c.reckon-q.ensures) (reckoned-fits c.args.k c.word-x.result c.word-y.result)))
+    (c.requires.0, c.requires.1, fits_word c.reckon-q.result c.in-Result.w c.in-Result.is (subst Fits (sym c.reckon-q.ensures) (reckoned_fits c.args.k c.word-x.result c.word-y.result)))
 
 pub returns-in-Result : goal.returns-in-Result
 returns-in-Result c =
@@ -53,9 +53,9 @@ returns-in-Result c =
     λ i e f drum₀ out₀ out m h.
     subst (λ (z : Reckoned). Did drum₀ out₀ s.new.drum s.new.marks out s.new.row c.outcome_of-o.result
     (reckoned (stops_at i (loss_by a.k (word_at m.cells a.a) (word_at m.cells a.b) z)) m a.c z))
-    (sym c.in-Result.is ∙ of-cells (goal.at.returns-in-Result c).After-reckon-q drum₀ m h.memory)
+    (sym c.in-Result.is ∙ of_cells (goal.at.returns-in-Result c).After-reckon-q drum₀ m h.memory)
     (record {
-      outcome_is = c.outcome_of-o.ensures ∙ stops_as i a.switches a.k _ e f (first-is (goal.at.returns-in-Result c).After-reckon-q drum₀ m h.memory) (second_is (goal.at.returns-in-Result c).After-reckon-q drum₀ m h.memory);
+      outcome_is = c.outcome_of-o.ensures ∙ stops_as i a.switches a.k _ e f (first_is (goal.at.returns-in-Result c).After-reckon-q drum₀ m h.memory) (second_is (goal.at.returns-in-Result c).After-reckon-q drum₀ m h.memory);
       shows = (s.ensures drum₀ out₀ out m h).shows;
     })
 
@@ -65,4 +65,4 @@ returns-in-Refused c =
     let a = c.args in
     subst (λ (z : Reckoned). Did drum₀ out₀ a.drum.now a.marks.now out a.row.now (Undone c.in-Refused.f)
     (reckoned (stops_at i (loss_by a.k (word_at m.cells a.a) (word_at m.cells a.b) z)) m a.c z))
-    (sym c.in-Refused.is ∙ of-cells (goal.at.returns-in-Refused c).After-reckon-q drum₀ m h.memory) (stays h (Undone c.in-Refused.f))
+    (sym c.in-Refused.is ∙ of_cells (goal.at.returns-in-Refused c).After-reckon-q drum₀ m h.memory) (stays h (Undone c.in-Refused.f))

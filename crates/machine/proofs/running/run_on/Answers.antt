@@ -23,8 +23,8 @@ use Rattle.machine.proofs.Runs.{run_more, run_end, run_out, at_most_one, ended_a
 use Rattle.machine.proofs.running.run_on.Goals as goal
 use Rattle.machine.proofs.running.run_on.Goals.{After-step-o, At-loop-count}
 
-same-budget : (n : ℕ) (i : Inputs) (m : Machine) → run_from i (n - 0) m 0 ≡ run_from i n m 0
-same-budget n i m = let e : n - 0 ≡ n = omega arith in ap (λ (k : ℕ). run_from i k m 0) e
+same_budget : (n : ℕ) (i : Inputs) (m : Machine) → run_from i (n - 0) m 0 ≡ run_from i n m 0
+same_budget n i m = let e : n - 0 ≡ n = omega arith in ap (λ (k : ℕ). run_from i k m 0) e
 
 -- what the run is lent, and what a turn did to the machine before it
 abbrev lent : List ℕ → List ℕ → Switches → Inputs
@@ -62,7 +62,7 @@ loop-count-init c =
         subst (λ (s : State). Shows a.drum.now a.out.now a.drum.now a.marks.now a.out.now c.row_for-row.result (begun (call_of a.drum.now a.marks.now a.out.now a.deck.now s a.budget a.switches))) (sym e)
             (rw c.row_for-row.ensures c.requires),
         omega arith,
-        same-budget a.budget _ _,
+        same_budget a.budget _ _,
       ),
     )
 

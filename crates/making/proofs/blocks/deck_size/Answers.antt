@@ -7,7 +7,7 @@ use Rattle.rules.specs.Drum.{view}
 use Rattle.rules.specs.Making.{blocks_in}
 use Rattle.rules.specs.declared.Cell.{Cell}
 use Rattle.rules.proofs.Blocks.{all_ahead}
-use Rattle.rules.proofs.MadeSizes.{elevens, deck-bytes}
+use Rattle.rules.proofs.MadeSizes.{elevens, deck_bytes}
 use Rattle.making.proofs.Ahead.{passed, come_upon, none_ahead}
 use Rattle.making.proofs.blocks.deck_size.Goals as goal
 use Rattle.making.proofs.blocks.deck_size.Goals.{After-card_from-n}
@@ -43,7 +43,7 @@ returns c =
     let v : List Cell = view c.args.drum.now c.args.marks.now in
     let h = c.loop-a.invariant.3 in
     let none : elevens h.0 ≡ 0 = ap elevens (none_ahead c.requires (omega arith) h.1) in
-    λ order problem. omega (arith, h.2, none, deck-bytes v order problem)
+    λ order problem. omega (arith, h.2, none, deck_bytes v order problem)
 
 pub overflow_mul-size : goal.overflow_mul-size
 overflow_mul-size c = omega (arith, few (goal.at.overflow_mul-size c).After-card_from-n)

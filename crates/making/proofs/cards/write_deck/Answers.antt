@@ -4,7 +4,7 @@ use native.Mathlib.Omega.{arith}
 use lib.ListN.{length}
 use Rattle.rules.specs.Drum.{view}
 use Rattle.rules.specs.Making.{blocks_in, deck_made}
-use Rattle.rules.proofs.MadeSizes.{cards_bytes, deck-bytes}
+use Rattle.rules.proofs.MadeSizes.{cards_bytes, deck_bytes}
 use Rattle.making.specs.Made.{cards_of}
 use mathlib.Core.List.{List}
 use Prim.Native.Nat.{ℕ}
@@ -15,7 +15,7 @@ use Rattle.making.proofs.cards.write_deck.Goals.{After-write_cards-at}
 room : (drum marks out : List ℕ) (order problem : ℕ) → length (deck_made (view drum marks) order problem) ≤ length out
     → length (cards_of drum marks problem) ≤ length out
 room drum marks out order problem l =
-    let v = view drum marks in omega (arith, deck-bytes v order problem, cards_bytes v problem 1 (blocks_in v), l)
+    let v = view drum marks in omega (arith, deck_bytes v order problem, cards_bytes v problem 1 (blocks_in v), l)
 
 inside : (c : After-write_cards-at) → c.write_cards-at.result ≤ length c.write_cards-at.new.out
 inside c = omega (arith, c.write_cards-at.ensures.size, c.write_cards-at.auto.out, room _ _ _ _ _ c.requires.room_left)

@@ -7,10 +7,10 @@ use Rattle.number.proofs.steps.nearest_root.Goals as goal
 use Rattle.number.proofs.steps.nearest_root.Goals.{At-loop-r-2, In-loop-r, In-loop-r-2}
 
 -- the square of twice a number less 1
-less-half : (r : ℕ) → 1 ≤ r → (2 * r - 1) * (2 * r - 1) + 4 * r ≡ 4 * (r * r) + 1
-less-half r some =
+less_half : (r : ℕ) → 1 ≤ r → (2 * r - 1) * (2 * r - 1) + 4 * r ≡ 4 * (r * r) + 1
+less_half r some =
     let is : 2 * r - 1 + 1 ≡ 2 * r = omega arith in
     omega (arith, ap (λ (t : ℕ). t * t) is)
 
 pub loop-r-2-init : goal.loop-r-2-init
-loop-r-2-init c = (c.loop-r.invariant.0, omega (arith, c.loop-r-test.false, less-half c.loop-r.r c.loop-r.invariant.0))
+loop-r-2-init c = (c.loop-r.invariant.0, omega (arith, c.loop-r-test.false, less_half c.loop-r.r c.loop-r.invariant.0))

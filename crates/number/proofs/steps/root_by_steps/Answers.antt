@@ -32,48 +32,48 @@ module _ (b : ℕ) where
   abbrev raised : ℕ
   raised = b / 100 * 10000000 * (1 + 9 * (b % 2))
 
-  even-unit : b % 2 ≡ 0 → raised ≡ b / 100 * 10 ^ 7
-  even-unit even = ap (λ (t : ℕ). b / 100 * 10000000 * (1 + 9 * t)) even ∙ omega arith
+  even_unit : b % 2 ≡ 0 → raised ≡ b / 100 * 10 ^ 7
+  even_unit even = ap (λ (t : ℕ). b / 100 * 10000000 * (1 + 9 * t)) even ∙ omega arith
 
-  odd-unit : b % 2 ≡ 1 → raised ≡ b / 100 * 10 ^ 8
-  odd-unit odd = ap (λ (t : ℕ). b / 100 * 10000000 * (1 + 9 * t)) odd ∙ omega arith
+  odd_unit : b % 2 ≡ 1 → raised ≡ b / 100 * 10 ^ 8
+  odd_unit odd = ap (λ (t : ℕ). b / 100 * 10000000 * (1 + 9 * t)) odd ∙ omega arith
 
   -- It is the same root.
-  same-root : b < 10 ^ 10 → word_of (settled single 0 (root_halves single (raised * 10 ^ ((b % 100 + 250) / 2 + (b % 100 + 250) / 2)))) ≡ word_of (root_of single (value_in b))
-  same-root plus = either (dec_le (b % 2) 0)
+  same_root : b < 10 ^ 10 → word_of (settled single 0 (root_halves single (raised * 10 ^ ((b % 100 + 250) / 2 + (b % 100 + 250) / 2)))) ≡ word_of (root_of single (value_in b))
+  same_root plus = either (dec_le (b % 2) 0)
     where
       either : Dec (b % 2 ≤ 0) → word_of (settled single 0 (root_halves single (raised * 10 ^ ((b % 100 + 250) / 2 + (b % 100 + 250) / 2)))) ≡ word_of (root_of single (value_in b))
       either (yes l) =
-          ap (λ (n : ℕ). word_of (settled single 0 (root_halves single (n * 10 ^ ((b % 100 + 250) / 2 + (b % 100 + 250) / 2))))) (even-unit (omega arith))
+          ap (λ (n : ℕ). word_of (settled single 0 (root_halves single (n * 10 ^ ((b % 100 + 250) / 2 + (b % 100 + 250) / 2))))) (even_unit (omega arith))
           ∙ moved_up b 7 ((b % 100 + 250) / 2) plus (omega arith)
       either (no g) =
-          ap (λ (n : ℕ). word_of (settled single 0 (root_halves single (n * 10 ^ ((b % 100 + 250) / 2 + (b % 100 + 250) / 2))))) (odd-unit (omega (arith, lt_of_not-le g)))
+          ap (λ (n : ℕ). word_of (settled single 0 (root_halves single (n * 10 ^ ((b % 100 + 250) / 2 + (b % 100 + 250) / 2))))) (odd_unit (omega (arith, lt_of_not-le g)))
           ∙ moved_up b 8 ((b % 100 + 250) / 2) plus (omega (arith, lt_of_not-le g))
 
   chosen : Chosen b raised (14894620 - b % 2 * 10184528)
   chosen = either (dec_le (b % 2) 0)
     where
       either : Dec (b % 2 ≤ 0) → Chosen b raised (14894620 - b % 2 * 10184528)
-      either (yes l) = inl (omega arith, even-unit (omega arith), omega arith)
+      either (yes l) = inl (omega arith, even_unit (omega arith), omega arith)
       either (no g) =
           let odd : b % 2 ≡ 1 = omega (arith, lt_of_not-le g) in
-          inr (odd, odd-unit odd, omega arith)
+          inr (odd, odd_unit odd, omega arith)
 
 -- What was found is the root of sixteen digits at most, or little more.
-found-fits : (n r : ℕ) → n ≤ 10 ^ 16 → OneMore n r → r ≤ 2000000000
-found-fits n zero few w = omega arith
-found-fits n (suc zero) few w = omega arith
-found-fits n (suc (suc k)) few w = omega (arith, no_larger n k 100000000 (omega (arith, w.over)) (omega arith))
+found_fits : (n r : ℕ) → n ≤ 10 ^ 16 → OneMore n r → r ≤ 2000000000
+found_fits n zero few w = omega arith
+found_fits n (suc zero) few w = omega arith
+found_fits n (suc (suc k)) few w = omega (arith, no_larger n k 100000000 (omega (arith, w.over)) (omega arith))
 
-raised-fits : (b : ℕ) → 10 ^ 9 ≤ b → b < 10 ^ 10 → (10 ^ 14 ≤ raised b) × (raised b ≤ 9999999900000000)
-raised-fits b least few = either (dec_le (b % 2) 0)
+raised_fits : (b : ℕ) → 10 ^ 9 ≤ b → b < 10 ^ 10 → (10 ^ 14 ≤ raised b) × (raised b ≤ 9999999900000000)
+raised_fits b least few = either (dec_le (b % 2) 0)
   where
     either : Dec (b % 2 ≤ 0) → (10 ^ 14 ≤ raised b) × (raised b ≤ 9999999900000000)
     either (yes l) =
-        let is : raised b ≡ b / 100 * 10 ^ 7 = even-unit b (omega arith) in
+        let is : raised b ≡ b / 100 * 10 ^ 7 = even_unit b (omega arith) in
         (omega (arith, is), omega (arith, is))
     either (no g) =
-        let is : raised b ≡ b / 100 * 10 ^ 8 = odd-unit b (omega (arith, lt_of_not-le g)) in
+        let is : raised b ≡ b / 100 * 10 ^ 8 = odd_unit b (omega (arith, lt_of_not-le g)) in
         (omega (arith, is), omega (arith, is))
 
 least : (c : Else-b-eq0) → 10 ^ 9 ≤ c.args.b
@@ -88,8 +88,8 @@ stepped-guess-requires c = (least (goal.at.stepped-guess-requires c).Else-b-eq0,
 
 pub even_root_by_steps-requires : goal.even_root_by_steps-requires
 even_root_by_steps-requires c =
-    let f = raised-fits c.args.b (least (goal.at.even_root_by_steps-requires c).Else-b-eq0) c.requires.1 in
-    (f.0, f.1, c.stepped-guess.ensures.some, found-fits (raised c.args.b) c.stepped-guess.result (omega (arith, f.1)) c.stepped-guess.ensures, omega arith)
+    let f = raised_fits c.args.b (least (goal.at.even_root_by_steps-requires c).Else-b-eq0) c.requires.1 in
+    (f.0, f.1, c.stepped-guess.ensures.some, found_fits (raised c.args.b) c.stepped-guess.result (omega (arith, f.1)) c.stepped-guess.ensures, omega arith)
 
 pub returns : goal.returns
-returns c = c.even_root_by_steps.ensures ∙ same-root c.args.b c.requires.1
+returns c = c.even_root_by_steps.ensures ∙ same_root c.args.b c.requires.1

@@ -12,8 +12,8 @@ use Rattle.rules.proofs.Words.{number_full, number_word}
 use Rattle.number.specs.Asked.{Aligned}
 use Rattle.number.proofs.sums.plus.Goals as goal
 
-taken-apart : (a b s t : ℕ) → is_number a ≡ true → s ≤ 1 → t ≤ 1 → exponent_in b ≤ exponent_in a → Aligned s (leading_in a) (exponent_in a) t (leading_in b) (exponent_in b)
-taken-apart a b s t na ls lt order =
+taken_apart : (a b s t : ℕ) → is_number a ≡ true → s ≤ 1 → t ≤ 1 → exponent_in b ≤ exponent_in a → Aligned s (leading_in a) (exponent_in a) t (leading_in b) (exponent_in b)
+taken_apart a b s t na ls lt order =
     record {
       first = ls;
       second = lt;
@@ -28,7 +28,7 @@ pub aligned-requires : goal.aligned-requires
 aligned-requires c =
     let a = c.args in
     let p = c.requires in
-    taken-apart a.b a.a a.t (sign_in a.a) p.1 p.2 (omega (arith, number_word a.a p.0)) (omega (arith, c.if-x-y.true))
+    taken_apart a.b a.a a.t (sign_in a.a) p.1 p.2 (omega (arith, number_word a.a p.0)) (omega (arith, c.if-x-y.true))
 
 pub returns-then-x-y : goal.returns-then-x-y
 returns-then-x-y c = c.aligned.ensures ∙ ap word_of (sum_swaps single _ _ _ _)
@@ -37,4 +37,4 @@ pub aligned-requires-2 : goal.aligned-requires-2
 aligned-requires-2 c =
     let a = c.args in
     let p = c.requires in
-    taken-apart a.a a.b (sign_in a.a) a.t p.0 (omega (arith, number_word a.a p.0)) p.2 c.if-x-y.false
+    taken_apart a.a a.b (sign_in a.a) a.t p.0 (omega (arith, number_word a.a p.0)) p.2 c.if-x-y.false

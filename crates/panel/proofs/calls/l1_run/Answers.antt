@@ -3,12 +3,12 @@
 use mathlib.Core.Path.{sym, ◌∙◌}
 use borrow.Author.Tests.{eqb-true, not-true, not-false}
 use borrow.Author.Rules.{rules}
-use Rattle.panel.proofs.Outcomes.{run-barred, run-done}
+use Rattle.panel.proofs.Outcomes.{run_barred_lem, run_done}
 use Rattle.panel.proofs.calls.l1_run.Goals as goal
 
 pub returns-then-not-is_state : goal.returns-then-not-is_state
 returns-then-not-is_state c =
-    run-barred _ _
+    run_barred_lem _ _
     (sym c.is_state.ensures ∙ not-true _ c.if-not-is_state.true-raw)
     c.why_barred-bar.ensures
     c.ending_told.ensures
@@ -21,7 +21,7 @@ put_state-requires c = eqb-true _ _ (sym c.is_state.ensures ∙ not-false _ c.if
 
 pub returns : goal.returns
 returns c =
-    run-done _ _
+    run_done _ _
     (sym c.is_state.ensures ∙ not-false _ c.if-not-is_state.false-raw)
     (cc (c.state_in-before.ensures, c.is_on.ensures))
     c.run-x.ensures

@@ -19,8 +19,8 @@ use Rattle.shows.proofs.cards.list_cards.Goals.{After-write_lines-x}
 use Rattle.shows.proofs.cards.list_cards.Given.{Over}
 
 -- what `&part[at..]` holds
-rest-is : (part : List ℕ) (at : ℕ) → take (length part - at) (drop at part) ≡ drop at part
-rest-is part at = take_all (length part - at) (drop at part) (omega (arith, length-drop at part))
+rest_is : (part : List ℕ) (at : ℕ) → take (length part - at) (drop at part) ≡ drop at part
+rest_is part at = take_all (length part - at) (drop at part) (omega (arith, length-drop at part))
 
 -- an answer that is told up to a place
 within : {r : Listed} {sent : Bool} {at : ℕ} {s : Seen} {n : ℕ} → (r.sent ≡ sent) × (r.passed ≡ record { taken = at; seen = s }) → at ≤ n
@@ -38,8 +38,8 @@ size g c =
     let part = c.args.part.now in
     let at = c.loop-at.at in
     let s = c.loop-at.seen in
-    let is : is_second s (drop at part) ≡ false = ap (is_second s) (sym (rest-is part at)) ∙ sym c.is_second.ensures ∙ c.if-is_second.false in
-    c.write_lines-x.ensures.taken ∙ ap size_of (rest-is part at) ∙ sym (other_size_lem s (drop at part) is)
+    let is : is_second s (drop at part) ≡ false = ap (is_second s) (sym (rest_is part at)) ∙ sym c.is_second.ensures ∙ c.if-is_second.false in
+    c.write_lines-x.ensures.taken ∙ ap size_of (rest_is part at) ∙ sym (other_size_lem s (drop at part) is)
 
 pub loop-at-init : goal.loop-at-init
 loop-at-init g c = (length c.args.part.now, omega arith, omega arith, refl, refl)
@@ -55,7 +55,7 @@ returns-then-is_second g c =
     let part = c.args.part.now in
     let at = c.loop-at.at in
     let s = c.loop-at.seen in
-    let is : is_second s (drop at part) ≡ true = ap (is_second s) (sym (rest-is part at)) ∙ sym c.is_second.ensures ∙ c.if-is_second.true in
+    let is : is_second s (drop at part) ≡ true = ap (is_second s) (sym (rest_is part at)) ∙ sym c.is_second.ensures ∙ c.if-is_second.true in
     record { within = within c.upto-then-is_second.ensures v.2; listed = told c.upto-then-is_second.ensures (λ e. ends_none part c.args.last s at v.0 v.4 (second_size s (drop at part) is)) }
 
 pub returns-then-size-eq0 : goal.returns-then-size-eq0
@@ -83,7 +83,7 @@ loop-at-preserved g c =
     let s = c.loop-at.seen in
     let n = c.write_lines-x.result.taken in
     let l : 0 < n = omega (arith, c.if-size-eq0.false) in
-    let k = c.with_kind-seen.ensures ∙ ap (λ (d : List ℕ). with_kind s (get_or d 0 0)) (rest-is part at) in (
+    let k = c.with_kind-seen.ensures ∙ ap (λ (d : List ℕ). with_kind s (get_or d 0 0)) (rest_is part at) in (
       v.0 - 1,
       omega (arith, l, v.1),
       omega arith,
