@@ -1,56 +1,21 @@
--- Laws of words: two are the same if each byte is, from the first on; one that begins with a mark is not shorter; a number is known by its
--- digits, from the first on, and one that has grown past the largest budget stays past it. Assumes nothing.
-use Prim.Native.Nat.{ℕ, suc, ◌+◌, ◌-◌, ◌*◌, ◌≤◌, ◌<◌, min}
+-- Laws of words: a number is known by its digits, from the first on, and one that has grown past the largest budget stays past it.
+-- Assumes nothing.
+use Prim.Native.Nat.{ℕ, ◌+◌, ◌-◌, ◌*◌, ◌≤◌, ◌<◌, min}
 use mathlib.Core.Path.{◌≡◌, refl, sym, ap, ◌∙◌}
 use mathlib.Core.List.{List, [], ◌∷◌}
 use mathlib.Core.Bool.{Bool, true, false}
 use native.Mathlib.Numerals.{add-one}
 use native.Mathlib.Omega.{arith}
-use lib.Dec.{eqb, leb, ltb}
-use lib.ListN.{length, take, drop, get_or, length-take, length-drop, drop_of_length-le}
-use lib.Seq.{drop-cons, take_all}
-use borrow.Author.Tests.{leb-true, lt-ltb, le-ltb, eq-eqb, ne_eqb}
+use lib.Dec.{leb, ltb}
+use lib.ListN.{length, drop, get_or, drop_of_length-le}
+use lib.Seq.{drop-cons}
+use borrow.Author.Tests.{leb-true, lt-ltb, le-ltb}
 use Rattle.rules.specs.Words.{both}
 use Rattle.rules.specs.Cards.{is_digit}
 use Rattle.octets.specs.Longer.{with_digit}
 use Rattle.rules.proofs.Tests.{both_first}
-use Rattle.calls.specs.Words.{same_bytes, begins_with, all_digits, is_number, value_from, capped_number}
-use Rattle.calls.specs.declared.words.Numeral.TheVariants.{Value, None}
-
--- ---- the same word
-
-pub same_not : (a b : List ℕ) → (length a ≡ length b → ⊥) → same_bytes a b ≡ false
-unfolding same_bytes
-same_not [] [] h = absurd (h refl)
-same_not [] (y ∷ b) h = refl
-same_not (x ∷ a) [] h = refl
-same_not (x ∷ a) (y ∷ b) h = rw (same_not a b (λ e. h (ap suc e))) (both_false (eqb x y))
-  where
-    both_false : (t : Bool) → both t false ≡ false
-    both_false true = refl
-    both_false false = refl
-
-same_next : (a b : List ℕ) (i : ℕ) → i < length a → i < length b
-    → same_bytes (drop i a) (drop i b) ≡ both (eqb (get_or a i 0) (get_or b i 0)) (same_bytes (drop (i + 1) a) (drop (i + 1) b))
-unfolding same_bytes
-same_next a b i h k = rw (add-one, drop-cons a i 0 h, drop-cons b i 0 k)
-
-pub same_end : (a b : List ℕ) (i : ℕ) → length a ≤ i → length b ≤ i → same_bytes (drop i a) (drop i b) ≡ true
-unfolding same_bytes
-same_end a b i h k = rw (drop_of_length-le a h, drop_of_length-le b k)
-
-module _ (a b : List ℕ) (i : ℕ) (h : i < length a) (k : i < length b) where
-  pub same_differs : (get_or a i 0 ≡ get_or b i 0 → ⊥) → same_bytes (drop i a) (drop i b) ≡ false
-  same_differs d = same_next a b i h k ∙ rw (ne_eqb _ _ d)
-
-  pub same_more : get_or a i 0 ≡ get_or b i 0 → same_bytes (drop (i + 1) a) (drop (i + 1) b) ≡ same_bytes (drop i a) (drop i b)
-  same_more e = sym (same_next a b i h k ∙ rw (eq-eqb _ _ e))
-
--- ---- a word that begins with a mark
-
-pub begins_not : (mark w : List ℕ) → length w < length mark → begins_with mark w ≡ false
-begins_not mark w h =
-    same_not (take (length mark) w) mark (λ e. let l = length-take (length mark) w in let z : ⊥ = omega arith in z)
+use Rattle.calls.specs.Words.{all_digits, is_number, value_from, capped_number}
+use Rattle.std.specs.Prelude.{Some, None}
 
 -- ---- numbers
 
@@ -103,13 +68,6 @@ no_number t e = rw e
 pub left_none : (t : List ℕ) → length t ≡ 0 → None ≡ capped_number t
 left_none t e = no_number t (rw (le-ltb 0 (length t) (omega arith)))
 
--- what is cut off behind the first n bytes of a word is all that is there, and of a shorter word nothing
-pub behind_all : (n : ℕ) (w : List ℕ) → take (length w - n) (drop n w) ≡ drop n w
-behind_all n w = take_all (length w - n) (drop n w) (let l = length-drop n w in let z : length (drop n w) ≤ length w - n = omega arith in z)
-
-pub behind_none : (n : ℕ) (w : List ℕ) → length w < n → None ≡ capped_number (drop n w)
-behind_none n w h = left_none (drop n w) (let l = length-drop n w in let z : length (drop n w) ≡ 0 = omega arith in z)
-
 all_but : (n : Bool) → both n false ≡ false
 all_but true = refl
 all_but false = refl
@@ -131,7 +89,7 @@ module _ (t : List ℕ) (x i : ℕ) (l : Left t x i) (h : i < length t) where
             (capped (with_digit x (get_or t i 0)) (drop (i + 1) t) ∙ ap (λ (z : ℕ). min 1000000 z) (sym (value_next t i x h)) ∙ l.value);
       }
 
-pub left_ends : (t : List ℕ) (x i : ℕ) → Left t x i → length t ≤ i → 0 < length t → Value x ≡ capped_number t
+pub left_ends : (t : List ℕ) (x i : ℕ) → Left t x i → length t ≤ i → 0 < length t → Some x ≡ capped_number t
 unfolding capped_number
 left_ends t x i l h k =
     let d : all_digits t ≡ true = sym l.rest ∙ digits_end t i h in
@@ -139,4 +97,4 @@ left_ends t x i l h k =
     let s = l.small in
     let m : min 1000000 x ≡ x = omega arith in
     sym m ∙ ap (λ (z : ℕ). min 1000000 z) (sym (value_end t i x h)) ∙ l.value in
-    rw (d, lt-ltb 0 (length t) k) (ap Value v)
+    rw (d, lt-ltb 0 (length t) k) (ap Some v)

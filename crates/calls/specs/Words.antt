@@ -1,28 +1,24 @@
 -- What the words of a call mean. Assumes nothing.
-use Rattle.std.specs.Prelude.{ℕ, ◌-◌, ◌≤◌, min, ◌≡◌, List, [], ◌∷◌, Bool, true, false, eqb, ltb, length, take, drop}
+use Rattle.std.specs.Prelude.{ℕ, ◌-◌, ◌≤◌, min, ◌≡◌, List, [], ◌∷◌, Bool, true, false, ltb, length, take, drop, bytes_eq, Option, Some, None, IsSome, ok_or, option_map, option_and_then, Result, Ok, Err}
+use Rattle.std.specs.Result.{result_ok}
 use Rattle.rules.specs.Bytes.{bytes}
 use Rattle.rules.specs.Words.{pick, both}
 use Rattle.rules.specs.Cards.{is_digit}
 use Rattle.octets.specs.Longer.{with_digit}
 use Rattle.rules.specs.declared.Switches.{Switches}
 use Rattle.calls.specs.declared.words.Command.{Command}
-use Rattle.calls.specs.declared.words.Command.TheVariants.{Session, New, Load, Run, Deck, List as ListCards, Cells, Make, Unknown}
-use Rattle.calls.specs.declared.words.Numeral.{Numeral}
-use Rattle.calls.specs.declared.words.Numeral.TheVariants.{Value, None}
+use Rattle.calls.specs.declared.words.Command.TheVariants.{Session, New, Load, Run, Deck, List as ListCards, Cells, Make}
 use Rattle.calls.specs.declared.words.Asked.{Asked}
-use Rattle.calls.specs.declared.words.Asked.TheVariants.{Traced, Stop, Budget, First, Problem, NoNumber, Nothing}
+use Rattle.calls.specs.declared.words.Asked.TheVariants.{Traced, Stop, Budget, First, Problem}
+use Rattle.calls.specs.declared.words.Trouble.{Trouble}
+use Rattle.calls.specs.declared.words.Trouble.TheVariants.{Stray, Twice, NotNumber}
 use Rattle.calls.specs.declared.options.Turn.{Turn}
 use Rattle.calls.specs.declared.options.Turn.TheVariants.{Never, Open, Due, Given}
-use Rattle.calls.specs.declared.options.Trouble.{Trouble}
-use Rattle.calls.specs.declared.options.Trouble.TheVariants.{Fine, Stray, Twice, NotNumber}
 use Rattle.calls.specs.declared.options.Options.{Options}
 
 -- whether two words are the same, byte for byte
-unfoldable pub same_bytes : List ℕ → List ℕ → Bool
-same_bytes [] [] = true
-same_bytes [] (b ∷ bs) = false
-same_bytes (a ∷ l) [] = false
-same_bytes (a ∷ l) (b ∷ bs) = both (eqb a b) (same_bytes l bs)
+abbrev pub same_bytes : List ℕ → List ℕ → Bool
+same_bytes = bytes_eq
 
 -- whether a word begins with a mark, and the rest of it
 abbrev pub begins_with : List ℕ → List ℕ → Bool
@@ -57,26 +53,16 @@ cells_word = bytes "cells"
 abbrev pub make_word : List ℕ
 make_word = bytes "make"
 
-unfoldable pub command_of : List ℕ → Command
+-- where it is none of these, there is none
+unfoldable pub command_of : List ℕ → Option Command
 command_of w =
-    pick (same_bytes w session_word) Session
-    (pick (same_bytes w new_word) New
-    (pick (same_bytes w load_word) Load
-    (pick (same_bytes w run_word) Run
-    (pick (same_bytes w deck_word) Deck
-    (pick (same_bytes w list_word) ListCards
-    (pick (same_bytes w cells_word) Cells (pick (same_bytes w make_word) Make Unknown)))))))
-
-abbrev pub is_known : Command → Bool
-is_known Session = true
-is_known New = true
-is_known Load = true
-is_known Run = true
-is_known Deck = true
-is_known ListCards = true
-is_known Cells = true
-is_known Make = true
-is_known Unknown = false
+    pick (same_bytes w session_word) (Some Session)
+    (pick (same_bytes w new_word) (Some New)
+    (pick (same_bytes w load_word) (Some Load)
+    (pick (same_bytes w run_word) (Some Run)
+    (pick (same_bytes w deck_word) (Some Deck)
+    (pick (same_bytes w list_word) (Some ListCards)
+    (pick (same_bytes w cells_word) (Some Cells) (pick (same_bytes w make_word) (Some Make) None)))))))
 
 -- ---- a word behind the names: traced, stop, budget=N, first=N, problem=N
 
@@ -100,20 +86,12 @@ value_of t = value_from 0 t
 abbrev pub too_large : ℕ
 too_large = 1000000
 
-unfoldable pub capped_number : List ℕ → Numeral
-capped_number t = pick (is_number t) (Value (min too_large (value_of t))) None
+unfoldable pub capped_number : List ℕ → Option ℕ
+capped_number t = pick (is_number t) (Some (min too_large (value_of t))) None
 
-abbrev pub as_budget : Numeral → Asked
-as_budget (Value n) = Budget n
-as_budget None = NoNumber
-
-abbrev pub as_first : Numeral → Asked
-as_first (Value n) = First n
-as_first None = NoNumber
-
-abbrev pub as_problem : Numeral → Asked
-as_problem (Value n) = Problem n
-as_problem None = NoNumber
+-- what a word asks for that has such a text behind its mark
+abbrev pub with_number : (ℕ → Asked) → List ℕ → Result Asked Trouble
+with_number ask t = ok_or (option_map ask (capped_number t)) NotNumber
 
 abbrev pub traced_word : List ℕ
 traced_word = bytes "traced"
@@ -130,180 +108,80 @@ first_mark = bytes "first="
 abbrev pub problem_mark : List ℕ
 problem_mark = bytes "problem="
 
-unfoldable pub asked_by : List ℕ → Asked
+-- what a word asks for, or what is wrong with it
+unfoldable pub asked_by : List ℕ → Result Asked Trouble
 asked_by w =
-    pick (same_bytes w traced_word) Traced
-    (pick (same_bytes w stop_word) Stop
-    (pick (begins_with budget_mark w) (as_budget (capped_number (behind_mark budget_mark w)))
-    (pick (begins_with first_mark w) (as_first (capped_number (behind_mark first_mark w)))
-    (pick (begins_with problem_mark w) (as_problem (capped_number (behind_mark problem_mark w))) Nothing))))
+    pick (same_bytes w traced_word) (Ok Traced)
+    (pick (same_bytes w stop_word) (Ok Stop)
+    (pick (begins_with budget_mark w) (with_number Budget (behind_mark budget_mark w))
+    (pick (begins_with first_mark w) (with_number First (behind_mark first_mark w))
+    (pick (begins_with problem_mark w) (with_number Problem (behind_mark problem_mark w)) (Err Stray)))))
 
 -- ---- what a command takes
 
-abbrev pub takes : Turn → Turn → Turn → Options
-takes traced stop limit =
-    record {
-      good = true;
-      traced = traced;
-      stop = stop;
-      limit = limit;
-      budget = 999999;
-      first = Never;
-      order = 0;
-      bears = Never;
-      problem = 0;
-    }
+-- of the words behind the names, none may come
+abbrev pub takes_none : Options
+takes_none = record { traced = Never; stop = Never; budget = Never; first = Never; problem = Never }
 
 -- make must be told a first order, and may be told a problem number
-abbrev pub makes : Options
-makes =
-    record {
-      good = true;
-      traced = Never;
-      stop = Never;
-      limit = Never;
-      budget = 999999;
-      first = Due;
-      order = 0;
-      bears = Open;
-      problem = 0;
-    }
-
 abbrev pub form_of : Command → Options
-form_of Session = takes Open Open Open
-form_of New = takes Never Never Never
-form_of Load = takes Open Never Never
-form_of Run = takes Never Open Open
-form_of Deck = takes Never Never Never
-form_of ListCards = takes Never Never Never
-form_of Cells = takes Never Never Never
-form_of Make = makes
-form_of Unknown = takes Never Never Never
+form_of Session = record takes_none { traced = Open; stop = Open; budget = Open }
+form_of New = takes_none
+form_of Load = record takes_none { traced = Open }
+form_of Run = record takes_none { stop = Open; budget = Open }
+form_of Deck = takes_none
+form_of ListCards = takes_none
+form_of Cells = takes_none
+form_of Make = record takes_none { first = Due; problem = Open }
 
--- whether a word may come now
-abbrev pub at_turn : Turn → Trouble
-at_turn Never = Stray
-at_turn Open = Fine
-at_turn Due = Fine
-at_turn Given = Twice
+-- the turn of a word that comes with this value: it may come now, or that is wrong
+abbrev pub given : {A : Type 0} → Turn A → A → Result (Turn A) Trouble
+given Never x = Err Stray
+given Open x = Ok (Given x)
+given Due x = Ok (Given x)
+given (Given y) x = Err Twice
 
-abbrev pub trouble_of : Options → Asked → Trouble
-trouble_of o Traced = at_turn o.traced
-trouble_of o Stop = at_turn o.stop
-trouble_of o (Budget n) = at_turn o.limit
-trouble_of o (First n) = at_turn o.first
-trouble_of o (Problem n) = at_turn o.bears
-trouble_of o NoNumber = NotNumber
-trouble_of o Nothing = Stray
+-- what is made of a turn, where the word may come
+abbrev pub where_given : {A : Type 0} → (Turn A → Options) → Result (Turn A) Trouble → Result Options Trouble
+where_given f (Ok t) = Ok (f t)
+where_given f (Err e) = Err e
 
--- what a call asks for with one word more
-abbrev pub with_traced : Options → Options
-with_traced o =
-    record {
-      good = o.good;
-      traced = Given;
-      stop = o.stop;
-      limit = o.limit;
-      budget = o.budget;
-      first = o.first;
-      order = o.order;
-      bears = o.bears;
-      problem = o.problem;
-    }
+-- what a call asks for with one word more, or what is wrong with that word
+abbrev pub with_next : Options → Asked → Result Options Trouble
+with_next o Traced = where_given (λ t. record o { traced = t }) (given o.traced tt)
+with_next o Stop = where_given (λ t. record o { stop = t }) (given o.stop tt)
+with_next o (Budget n) = where_given (λ t. record o { budget = t }) (given o.budget n)
+with_next o (First n) = where_given (λ t. record o { first = t }) (given o.first n)
+with_next o (Problem n) = where_given (λ t. record o { problem = t }) (given o.problem n)
 
-abbrev pub with_stop : Options → Options
-with_stop o =
-    record {
-      good = o.good;
-      traced = o.traced;
-      stop = Given;
-      limit = o.limit;
-      budget = o.budget;
-      first = o.first;
-      order = o.order;
-      bears = o.bears;
-      problem = o.problem;
-    }
+-- the same of a word by its bytes
+abbrev pub next_asked : Options → Result Asked Trouble → Result Options Trouble
+next_asked o (Ok x) = with_next o x
+next_asked o (Err e) = Err e
 
-abbrev pub with_budget : Options → ℕ → Options
-with_budget o n =
-    record {
-      good = o.good;
-      traced = o.traced;
-      stop = o.stop;
-      limit = Given;
-      budget = n;
-      first = o.first;
-      order = o.order;
-      bears = o.bears;
-      problem = o.problem;
-    }
-
-abbrev pub with_first : Options → ℕ → Options
-with_first o n =
-    record {
-      good = o.good;
-      traced = o.traced;
-      stop = o.stop;
-      limit = o.limit;
-      budget = o.budget;
-      first = Given;
-      order = n;
-      bears = o.bears;
-      problem = o.problem;
-    }
-
-abbrev pub with_problem : Options → ℕ → Options
-with_problem o n =
-    record {
-      good = o.good;
-      traced = o.traced;
-      stop = o.stop;
-      limit = o.limit;
-      budget = o.budget;
-      first = o.first;
-      order = o.order;
-      bears = Given;
-      problem = n;
-    }
-
-abbrev pub with_word : Options → Asked → Options
-with_word o Traced = with_traced o
-with_word o Stop = with_stop o
-with_word o (Budget n) = with_budget o n
-with_word o (First n) = with_first o n
-with_word o (Problem n) = with_problem o n
-with_word o NoNumber = o
-with_word o Nothing = o
-
--- a call that is not to be obeyed
-abbrev pub spoilt_of : Options → Options
-spoilt_of o =
-    record {
-      good = false;
-      traced = o.traced;
-      stop = o.stop;
-      limit = o.limit;
-      budget = o.budget;
-      first = o.first;
-      order = o.order;
-      bears = o.bears;
-      problem = o.problem;
-    }
+abbrev pub with_word : Options → List ℕ → Result Options Trouble
+with_word o w = next_asked o (asked_by w)
 
 -- whether a word came
-abbrev pub is_given : Turn → Bool
+abbrev pub is_given : {A : Type 0} → Turn A → Bool
 is_given Never = false
 is_given Open = false
 is_given Due = false
-is_given Given = true
+is_given (Given x) = true
+
+-- what came with it, or another value where it did not come
+abbrev pub given_or : {A : Type 0} → Turn A → A → A
+given_or Never x = x
+given_or Open x = x
+given_or Due x = x
+given_or (Given y) x = y
 
 -- whether a word must come and has not come yet
-abbrev pub is_due : Turn → Bool
+abbrev pub is_due : {A : Type 0} → Turn A → Bool
 is_due Never = false
 is_due Open = false
 is_due Due = true
-is_due Given = false
+is_due (Given x) = false
 
 -- where the words behind the names begin, in a call of so many words: of new, the second name may be left out
 abbrev pub behind_new : ℕ → ℕ
@@ -318,7 +196,6 @@ behind_names Deck count = 3
 behind_names ListCards count = 3
 behind_names Cells count = 3
 behind_names Make count = 3
-behind_names Unknown count = 3
 
 -- ---- what a call asks for
 
@@ -326,42 +203,32 @@ behind_names Unknown count = 3
 abbrev pub is_missing : Command → ℕ → Bool
 is_missing c count = ltb count (behind_names c count)
 
-abbrev pub start_of : Command → ℕ → Options
-start_of c count = pick (is_missing c count) (spoilt_of (form_of c)) (form_of c)
+abbrev pub start_of : Command → ℕ → Option Options
+start_of c count = pick (is_missing c count) None (Some (form_of c))
 
--- with one word more: a word that is wrong spoils the call
-abbrev pub is_fine : Trouble → Bool
-is_fine Fine = true
-is_fine Stray = false
-is_fine Twice = false
-is_fine NotNumber = false
-
-abbrev pub with_next : Options → Asked → Options
-with_next o x = pick (is_fine (trouble_of o x)) (with_word o x) (spoilt_of o)
-
--- with words more, one after another, each by its bytes
-unfoldable pub with_all : Options → List (List ℕ) → Options
+-- with words more, one after another, each by its bytes: a word that is wrong spoils the call, and there is nothing that it asks for
+unfoldable pub with_all : Option Options → List (List ℕ) → Option Options
 with_all o [] = o
-with_all o (w ∷ ws) = with_all (with_next o (asked_by w)) ws
+with_all o (w ∷ ws) = with_all (option_and_then (λ x. result_ok (with_word x w)) o) ws
 
 -- what a call of so many words asks for: some words were read, and all from the one place to the other unless one of them is wrong
-pub record Read (form : Options) (from count : ℕ) (r : Options) : Type 0 where
+pub record Read (form : Option Options) (from count : ℕ) (r : Option Options) : Type 0 where
   pub words : List (List ℕ)
   pub all_taken : r ≡ with_all form words
   pub no_more : length words ≤ count - from
-  pub no_fewer : r.good ≡ true → length words ≡ count - from
+  pub no_fewer : IsSome r → length words ≡ count - from
 
 -- after the last word: a call that has all but a first order, which is due, lacks that, and is not to be obeyed
 abbrev pub lacks_first : Options → Bool
-lacks_first o = both o.good (is_due o.first)
+lacks_first o = is_due o.first
 
-abbrev pub at_end : Options → Options
-at_end o = pick (lacks_first o) (spoilt_of o) o
+abbrev pub at_end : Options → Option Options
+at_end o = pick (lacks_first o) None (Some o)
 
-pub record ReadToEnd (c : Command) (count : ℕ) (r : Options) : Type 0 where
-  pub before : Options
+pub record ReadToEnd (c : Command) (count : ℕ) (r : Option Options) : Type 0 where
+  pub before : Option Options
   pub read : Read (start_of c count) (behind_names c count) count before
-  pub ended : r ≡ at_end before
+  pub ended : r ≡ option_and_then at_end before
 
 -- whether the load is a traced one, and the console's switches
 abbrev pub is_traced : Options → Bool
@@ -370,6 +237,14 @@ is_traced o = is_given o.traced
 abbrev pub switches_of : Options → Switches
 switches_of o = record { stop = is_given o.stop }
 
+-- how many orders a run may do at most: as many as are given, or 999,999
+abbrev pub budget_of : Options → ℕ
+budget_of o = given_or o.budget 999999
+
+-- the first order of a deck, which a call of make is given; of another call 0
+abbrev pub first_of : Options → ℕ
+first_of o = given_or o.first 0
+
 -- the problem number for a deck: the one given, or the machine's own
 abbrev pub problem_of : Options → ℕ → ℕ
-problem_of o own = pick (is_given o.bears) o.problem own
+problem_of o own = given_or o.problem own

@@ -6,7 +6,7 @@ mod options;
 mod words;
 
 pub use options::{
-    Options, Trouble, Turn, at_end, is_fine, is_missing, is_traced, lacks_first, problem_of,
-    start_of, switches_of, trouble_of, with_next,
+    Options, Turn, at_end, budget_of, first_of, is_traced, lacks_first, problem_of, start_of,
+    switches_of, with_next, with_word,
 };
-pub use words::{Asked, Command, asked_by, behind_names, command_of, is_known};
+pub use words::{Asked, Command, Trouble, asked_by, behind_names, command_of};

@@ -1,4 +1,5 @@
 -- The data cards of a deck, as loops take them one by one: what is left has the answer of the whole. Assumes nothing.
+use Rattle.std.proofs.Common.{Err, Ok}
 use mathlib.Core.Path.{◌≡◌, sym, ap, ◌∙◌}
 use mathlib.Core.List.{List, [], ◌∷◌}
 use mathlib.Core.Bool.{true, false}
@@ -6,16 +7,15 @@ use Prim.Native.Nat.{ℕ, ◌+◌, ◌≤◌, ◌<◌}
 use lib.ListN.{length, drop}
 use borrow.Author.Tests.{eq-eqb, ne_eqb, lt-ltb, le-ltb, le-leb, lt-leb}
 use Rattle.rules.specs.Decks.{card_at, DataCard, data_from, judged, judged_from, begins_at, may_stand}
+use Rattle.rules.specs.Answers.{Judged}
 use Rattle.rules.specs.declared.Card.{Card}
 use Rattle.rules.specs.declared.Card.TheVariants.{Data}
-use Rattle.rules.specs.declared.Judged.{Judged}
-use Rattle.rules.specs.declared.Judged.TheVariants.{Fits, Fails}
 use Rattle.rules.specs.declared.Refusal.TheVariants.{Unfit, NoCard}
 use Rattle.rules.proofs.Decks.{Other, DataAt, data_at, data_next, data_none}
 
 -- ---- judged
 
-full : (ks : List DataCard) (at b c : ℕ) → c < b → Fits at ≡ judged ks at b c
+full : (ks : List DataCard) (at b c : ℕ) → c < b → Ok at ≡ judged ks at b c
 unfolding judged
 full [] at b c l = simp (lt-ltb c b l)
 full (k ∷ ks) at b c l = simp (lt-ltb c b l, judged)
@@ -25,11 +25,11 @@ pub record Judging (deck : List ℕ) (from b c at next : ℕ) : Type 0 where
   pub same : judged (data_from deck at) at next c ≡ judged_from deck from b c
 
 module _ {deck : List ℕ} {from b c at next : ℕ} (h : Judging deck from b c at next) where
-  pub judging_full : c < next → Fits at ≡ judged_from deck from b c
+  pub judging_full : c < next → Ok at ≡ judged_from deck from b c
   judging_full l = full (data_from deck at) at next c l ∙ h.same
 
   module _ (l : next ≤ c) where
-    pub judging_none : (x : Card) → Other x → card_at deck at ≡ x → Fails NoCard ≡ judged_from deck from b c
+    pub judging_none : (x : Card) → Other x → card_at deck at ≡ x → Err NoCard ≡ judged_from deck from b c
     unfolding judged
     judging_none x t q =
         sym (ap (λ (ks : List DataCard). judged ks at next c) (data_none deck at x t q) ∙ simp (le-ltb c next l)) ∙ h.same
@@ -44,13 +44,13 @@ module _ {deck : List ℕ} {from b c at next : ℕ} (h : Judging deck from b c a
       pub judging_data : DataAt deck at location words size
       judging_data = data_at deck at q
 
-      pub judging_elsewhere : (location ≡ next → ⊥) → Fails Unfit ≡ judged_from deck from b c
+      pub judging_elsewhere : (location ≡ next → ⊥) → Err Unfit ≡ judged_from deck from b c
       unfolding judged
-      judging_elsewhere n = first (Fails Unfit) (simp (le-ltb c next l, ne_eqb location next n, judged))
+      judging_elsewhere n = first (Err Unfit) (simp (le-ltb c next l, ne_eqb location next n, judged))
 
-      pub judging_past : location ≡ next → c + 1 < next + words → Fails Unfit ≡ judged_from deck from b c
+      pub judging_past : location ≡ next → c + 1 < next + words → Err Unfit ≡ judged_from deck from b c
       unfolding judged
-      judging_past e g = first (Fails Unfit) (simp (le-ltb c next l, eq-eqb location next e, lt-leb (next + words) (c + 1) g, judged))
+      judging_past e g = first (Err Unfit) (simp (le-ltb c next l, eq-eqb location next e, lt-leb (next + words) (c + 1) g, judged))
 
       pub judging_more : location ≡ next → next + words ≤ c + 1 → Judging deck from b c (at + size) (next + words)
       unfolding judged

@@ -3,7 +3,7 @@
 use mathlib.Core.Path.{◌≡◌, refl, sym, ap, ◌∙◌}
 use mathlib.Core.List.{List}
 use mathlib.Core.Bool.{true, false}
-use Prim.Native.Nat.{ℕ, suc, ◌+◌, ◌-◌, ◌≤◌, ◌<◌}
+use Prim.Native.Nat.{ℕ, zero, suc, max, ◌+◌, ◌-◌, ◌≤◌, ◌<◌}
 use native.Mathlib.Numerals.{add-one}
 use native.Mathlib.Omega.{arith}
 use lib.ListN.{get_or}
@@ -40,3 +40,9 @@ module _ (n : ℕ) (d : List ℕ) (size o : ℕ) (h : Looked n d size o) where
   look_end l =
       let z : size - o ≡ 0 = omega arith in
       sym (ap (bad_from n d o) z) ∙ h.same
+
+-- where no place is bad, the answer is the place behind the last
+pub look_none : (n : ℕ) (d : List ℕ) (size o : ℕ) → Looked n d size o → size ≤ o → (1 ≤ size → o ≤ size) → max size 1 ≡ bad_from n d 1 (size - 1)
+unfolding bad_from
+look_none n d zero o h l k = refl
+look_none n d (suc m) o h l k = let e = look_end n d (suc m) o h l in omega arith

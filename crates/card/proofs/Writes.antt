@@ -2,7 +2,8 @@
 -- Assumes nothing.
 use mathlib.Core.Path.{◌≡◌, refl, sym, ap, ap₂, ◌∙◌}
 use mathlib.Core.List.{List, [], ◌∷◌, ◌++◌}
-use mathlib.Core.Bool.{Bool, true, false}
+use mathlib.Core.Bool.{Bool, true, false, ◌&&◌}
+use Rattle.std.specs.List.{list_all}
 use Prim.Native.Nat.{ℕ, zero, suc, ◌+◌, ◌≤◌, ◌<◌}
 use native.Mathlib.Nat.{le_of_suc-le-suc}
 use native.Mathlib.Omega.{arith}
@@ -14,7 +15,7 @@ use Rattle.rules.specs.Cards.{cells_fit}
 use Rattle.rules.specs.Drum.{word_at}
 use Rattle.rules.specs.Orders.{words_from}
 use Rattle.rules.specs.Running.{over}
-use Rattle.rules.specs.declared.Cell.{Cell}
+use Rattle.rules.specs.Answers.{Cell}
 use Rattle.rules.proofs.Tests.{both_first, both_second}
 use Rattle.rules.proofs.Fields.{AllWords}
 use Rattle.card.specs.Written.{all_words, data_may, fits, Wrote, WroteLine}
@@ -31,6 +32,15 @@ all_tested : (ws : List ℕ) → AllWords ws → all_words ws ≡ true
 unfolding all_words
 all_tested [] h = refl
 all_tested (w ∷ ws) h = ap₂ both (le-leb w 19999999999 (h 0 (omega arith))) (all_tested ws (λ i l. h (suc i) (omega arith)))
+
+pub words_listed : (ws : List ℕ) → list_all is_word ws ≡ all_words ws
+unfolding all_words
+words_listed [] = refl
+words_listed (w ∷ ws) = ap (λ (t : Bool). is_word w && t) (words_listed ws) ∙ same (is_word w) (all_words ws)
+  where
+    same : (x y : Bool) → (x && y) ≡ both x y
+    same true y = refl
+    same false y = refl
 
 -- the words of cells that hold words
 one_more : (ws : List ℕ) (w : ℕ) → all_words ws ≡ true → w ≤ 19999999999 → all_words (ws ++ (w ∷ [])) ≡ true

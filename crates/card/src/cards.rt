@@ -6,7 +6,8 @@ use crate::reading::card_at;
 use rules::{Card, Judged, Refusal};
 
 // Whether the cards from a place on fill the cells b to c, and where they end. Nothing is stored here. The last cell of a card is
-// compared, and not the one behind it, since c may be any number.
+// compared, and not the one behind it, since c may be any number. This loop is over once the block is filled, and that of `may_stand` at
+// the first other card: an iterator over data cards would be longer than both.
 pub fn judge(deck: &[u8], from: usize, b: usize, c: usize) -> Judged
     ensures { result ≡ judged_from deck.now from b c }
 {
@@ -14,25 +15,24 @@ pub fn judge(deck: &[u8], from: usize, b: usize, c: usize) -> Judged
     let mut next = b;
     while next <= c {
         let Card::Data {
-            number: _,
             location,
             words,
-            problem: _,
             size,
+            ..
         } = card_at(deck, at)
         else {
-            return Judged::Fails(Refusal::NoCard);
+            return Err(Refusal::NoCard);
         };
         if location != next {
-            return Judged::Fails(Refusal::Unfit);
+            return Err(Refusal::Unfit);
         }
         if c < next + words - 1 {
-            return Judged::Fails(Refusal::Unfit);
+            return Err(Refusal::Unfit);
         }
         at += size;
         next += words;
     }
-    Judged::Fits(at)
+    Ok(at)
 }
 
 // Whether a reader may stand at the place r: where a data card begins, counted from the place `behind` on, or at the deck's end.
@@ -44,14 +44,7 @@ pub fn may_stand(deck: &[u8], behind: usize, r: usize) -> bool
     }
     let mut at = behind;
     loop {
-        let Card::Data {
-            number: _,
-            location: _,
-            words: _,
-            problem: _,
-            size,
-        } = card_at(deck, at)
-        else {
+        let Card::Data { size, .. } = card_at(deck, at) else {
             return false;
         };
         if at == r {

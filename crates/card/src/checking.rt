@@ -5,94 +5,77 @@ ghost use Rattle.card.specs.Forms.{is_second};
 
 use crate::fields::{cells_fit, form_of, is_due};
 use octets::number_in;
-use rules::{Deck, DeckFault, Fault};
+use rules::{Deck, DeckFault, Fault, Start};
 
 // Whether a card of this kind is a second first-order card; the deck is good so far if it has had one.
 fn is_second(sofar: Deck, kind: u8) -> bool
     ensures { result ≡ is_second sofar kind }
 {
-    match sofar {
-        Deck::Good {
-            behind: _,
-            order: _,
-            problem: _,
-        } => kind == b'T',
-        Deck::Faulty(_) => false,
-    }
+    sofar.is_ok() && kind == b'T'
 }
 
 // Whether a deck is good, with what its first-order card says; else its first fault. The loop over cards is left with the answer; the
-// loop over the bytes of a card, at the first that is not the one due, leaves it too. `sofar` is the answer if no more cards come.
+// loop over the bytes of a card, at the first that is not the one due, leaves it too. `sofar` is the answer if no more cards come. The
+// outer loop goes by the sizes of cards, and so is no `for`.
 pub fn check_deck(deck: &[u8]) -> Deck
     ensures { result ≡ deck_of deck.now }
 {
     if 65_536 < deck.len() {
-        return Deck::Faulty(DeckFault::TooLong);
+        return Err(DeckFault::TooLong);
     }
     let mut at: usize = 0;
-    let mut sofar = Deck::Faulty(DeckFault::NoFirst(deck.len()));
+    let mut sofar = Err(DeckFault::NoFirst(deck.len()));
     'cards: loop {
         if deck.len() <= at {
             break 'cards sofar;
         }
         let rest = &deck[at..];
         let kind = rest[0];
-        let form = form_of(kind);
-        let words = form.words;
-        let size = form.size;
-        let place = form.place;
-        let cells = form.cells;
         if is_second(sofar, kind) {
-            break 'cards Deck::Faulty(DeckFault::At {
+            break 'cards Err(DeckFault::At {
                 card: at,
                 fault: Fault::SecondFirst,
                 byte: at,
             });
         }
-        if size == 0 {
-            break 'cards Deck::Faulty(DeckFault::At {
+        let Some(form) = form_of(kind) else {
+            break 'cards Err(DeckFault::At {
                 card: at,
                 fault: Fault::UnknownKind,
                 byte: at,
             });
-        }
-        if rest.len() < size {
-            break 'cards Deck::Faulty(DeckFault::At {
+        };
+        if rest.len() < form.size {
+            break 'cards Err(DeckFault::At {
                 card: at,
                 fault: Fault::CutShort,
                 byte: at,
             });
         }
-        let mut o: usize = 1;
-        while o < size {
-            let b = rest[o];
-            if !is_due(words, o, b) {
-                let byte = at + o;
-                break 'cards Deck::Faulty(DeckFault::At {
+        for o in 1..form.size {
+            if !is_due(form.words, o, rest[o]) {
+                break 'cards Err(DeckFault::At {
                     card: at,
                     fault: Fault::BadByte,
-                    byte,
+                    byte: at + o,
                 });
             }
-            o += 1;
         }
-        let location = number_in(rest, place, 3);
-        if !cells_fit(location, cells) {
-            let byte = at + place;
-            break 'cards Deck::Faulty(DeckFault::At {
+        let location = number_in(rest, form.place, 3);
+        if !cells_fit(location, form.cells) {
+            break 'cards Err(DeckFault::At {
                 card: at,
                 fault: Fault::BadPlace,
-                byte,
+                byte: at + form.place,
             });
         }
-        at += size;
+        at += form.size;
         if kind == b'T' {
-            let problem = number_in(rest, 4, 3);
-            sofar = Deck::Good {
+            sofar = Ok(Start {
                 behind: at,
                 order: location as usize,
-                problem,
-            };
+                problem: number_in(rest, 4, 3),
+            });
         }
     }
 }

@@ -1,5 +1,6 @@
 // Punched cards: one card read from what is left of a deck, the check of a deck, its data cards judged for READ, and cards and lines
-// written into what is left of an output. Each function that is shown here takes any bytes and any numbers.
+// written into what is left of an output. Each function that is shown here takes any bytes and any numbers. Fields are put by their widths:
+// `write!` would want a type of its own around the lent output, and is no plainer.
 #![tactic(auto)]
 
 mod cards;

@@ -16,7 +16,8 @@ fn put_line(out: &mut [u8], number: u64, a: usize, place: u64, b: usize)
     put_field(out, a + 1, b, place);
 }
 
-// The line for a call that was refused at its entry: the number, a space and the place. It answers how many bytes it wrote.
+// The line for a call that was refused at its entry: the number, a space and the place. It answers how many bytes it wrote,
+// and 0 for none, as each line of a listing does.
 pub fn write_line(out: &mut [u8], number: u64, place: usize) -> usize
     ensures { WroteLine (refusal_line number place) out.old result out.new }
 {

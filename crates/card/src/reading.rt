@@ -7,19 +7,17 @@ use crate::fields::{cells_fit, form_of, is_due};
 use octets::{byte_at, number_in};
 use rules::{Card, Fault};
 
-// The first place of a card of n words whose byte is not the one due, and its size where there is none. Bytes past the end count as 0.
+// The first place of a card of n words whose byte is not the one due. Where there is none it is the place behind them, as its promise says,
+// and so no Option. Bytes past the end count as 0.
 pub fn first_bad(rest: &[u8], n: usize, size: usize) -> usize
     ensures { result ≡ bad_from n rest.now 1 (size - 1) }
 {
-    let mut o: usize = 1;
-    while o < size {
-        let b = byte_at(rest, o);
-        if !is_due(n, o, b) {
+    for o in 1..size {
+        if !is_due(n, o, byte_at(rest, o)) {
             return o;
         }
-        o += 1;
     }
-    o
+    size.max(1)
 }
 
 // The card at the start of what is left of a deck, or what is wrong with it.
@@ -30,24 +28,19 @@ pub fn read_card(rest: &[u8]) -> Card
         return Card::End;
     }
     let kind = rest[0];
-    let form = form_of(kind);
-    let words = form.words;
-    let size = form.size;
-    let place = form.place;
-    let cells = form.cells;
-    if size == 0 {
+    let Some(form) = form_of(kind) else {
         return Card::Bad(Fault::UnknownKind, 0);
-    }
-    if rest.len() < size {
+    };
+    if rest.len() < form.size {
         return Card::Bad(Fault::CutShort, 0);
     }
-    let bad = first_bad(rest, words, size);
-    if bad < size {
+    let bad = first_bad(rest, form.words, form.size);
+    if bad < form.size {
         return Card::Bad(Fault::BadByte, bad);
     }
-    let location = number_in(rest, place, 3);
-    if !cells_fit(location, cells) {
-        return Card::Bad(Fault::BadPlace, place);
+    let location = number_in(rest, form.place, 3);
+    if !cells_fit(location, form.cells) {
+        return Card::Bad(Fault::BadPlace, form.place);
     }
     if kind == b'T' {
         let problem = number_in(rest, 4, 3);
@@ -57,13 +50,13 @@ pub fn read_card(rest: &[u8]) -> Card
         };
     }
     let number = number_in(rest, 1, 4);
-    let problem = number_in(rest, 8 + 11 * words, 3);
+    let problem = number_in(rest, 8 + 11 * form.words, 3);
     Card::Data {
         number,
         location: location as usize,
-        words,
+        words: form.words,
         problem,
-        size,
+        size: form.size,
     }
 }
 

@@ -1,5 +1,6 @@
 // Cards written over the start of what is left of an output. A card is written whole or, where a field is out of range or the room too
-// small, not at all.
+// small, not at all: there is one way not to be written, which a bool says as plainly as an Option. The four writers are a test, a length
+// and what is put, so that one of them all with closures for these would be no shorter.
 ghost use Rattle.std.specs.Prelude.{◌≡◌, ◌≤◌, length, take};
 ghost use Rattle.rules.specs.Cards.{data_card, first_card, trace_card, stop_card};
 ghost use Rattle.rules.specs.Running.{over};
@@ -9,7 +10,7 @@ use crate::parts::put_card;
 use crate::ranges::{data_may, first_may, stop_may, trace_may};
 use octets::{put_byte, put_field, put_word};
 
-// A data card of the first n words, and whether it was written.
+// A data card of the first n words, and whether it was written. Five words and how many of them are what its promise speaks of.
 pub fn write_data(
     out: &mut [u8],
     number: u64,
@@ -32,8 +33,7 @@ pub fn write_data(
         b'0' + n as u8,
         number,
         location as u64,
-        &words,
-        n,
+        &words[..n],
         problem,
     );
     true
@@ -79,7 +79,7 @@ pub fn write_trace(
     if out.len() < 77 {
         return false;
     }
-    put_card(out, b'X', number, location as u64, &words, 6, problem);
+    put_card(out, b'X', number, location as u64, &words, problem);
     true
 }
 

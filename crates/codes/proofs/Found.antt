@@ -1,4 +1,5 @@
 -- The table by the number of its row: what stands in the first row with a code is what the rules find for the code. Assumes nothing.
+use Rattle.std.proofs.Common.{None, Some}
 use Prim.Native.Nat.{ℕ, zero, suc, ◌+◌, ◌≤◌, ◌<◌}
 use mathlib.Core.Path.{◌≡◌, refl, ap}
 use mathlib.Core.Bool.{Bool, true, false}
@@ -11,7 +12,6 @@ use lib.Dec.{eqb}
 use lib.ListN.{length, drop}
 use Rattle.rules.specs.Words.{pick}
 use Rattle.rules.specs.Codes.{Row, codes, lookup, name_in}
-use Rattle.rules.specs.declared.Built.TheVariants.{As, No}
 use Rattle.codes.specs.Rows.{row_in, row_built, name_at, code_at}
 
 pub found : (k : ℕ) (rs : List Row) → row_built (row_in k rs) rs ≡ lookup k rs
@@ -20,7 +20,7 @@ found k [] = refl
 found k (r ∷ rs) = by_test (eqb k r.code) (found k rs)
   where
     by_test : (t : Bool) → row_built (row_in k rs) rs ≡ lookup k rs
-        → row_built (pick t 0 (suc (row_in k rs))) (r ∷ rs) ≡ pick t (As r.operation r.class) (lookup k rs)
+        → row_built (pick t 0 (suc (row_in k rs))) (r ∷ rs) ≡ pick t (Some (r.operation, r.class)) (lookup k rs)
     by_test true e = refl
     by_test false e = e
 
@@ -35,12 +35,12 @@ named k (r ∷ rs) = by_test (eqb k r.code) (named k rs)
 
 -- ---- numbers that no row has
 
-unbuilt : (rs : List Row) (n : ℕ) → length rs ≤ n → No ≡ row_built n rs
+unbuilt : (rs : List Row) (n : ℕ) → length rs ≤ n → None ≡ row_built n rs
 unbuilt [] n l = refl
 unbuilt (r ∷ rs) zero l = let z : ⊥ = omega arith in absurd z
 unbuilt (r ∷ rs) (suc n) l = unbuilt rs n (le_of_suc-le-suc l)
 
-pub no_row : (n : ℕ) → 40 ≤ n → No ≡ row_built n codes
+pub no_row : (n : ℕ) → 40 ≤ n → None ≡ row_built n codes
 unfolding codes
 no_row n l = unbuilt codes n l
 

@@ -1,4 +1,5 @@
 -- Each row of the table suits, and so does what is looked up in it. Assumes nothing.
+use Rattle.std.proofs.Common.{Some}
 use Prim.Native.Nat.{ℕ}
 use mathlib.Core.Path.{refl}
 use mathlib.Core.Bool.{Bool, true, false}
@@ -6,7 +7,6 @@ use mathlib.Core.List.{List, [], ◌∷◌}
 use lib.Dec.{eqb}
 use Rattle.rules.specs.Words.{pick}
 use Rattle.rules.specs.Codes.{Row, codes, lookup}
-use Rattle.rules.specs.declared.Built.TheVariants.{As}
 use Rattle.codes.specs.Suits.{Suits, SuitsBuilt}
 
 abbrev AllSuit : List Row → Type 0
@@ -18,7 +18,7 @@ unfolding lookup
 rows_suit k [] h = tt
 rows_suit k (r ∷ rs) h = by_test (eqb k r.code) (rows_suit k rs h.1)
   where
-    by_test : (t : Bool) → SuitsBuilt (lookup k rs) → SuitsBuilt (pick t (As r.operation r.class) (lookup k rs))
+    by_test : (t : Bool) → SuitsBuilt (lookup k rs) → SuitsBuilt (pick t (Some (r.operation, r.class)) (lookup k rs))
     by_test true s = h.0
     by_test false s = s
 

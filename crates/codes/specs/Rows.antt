@@ -1,10 +1,9 @@
 -- The table of built codes by the number of its row. Assumes nothing.
-use Rattle.std.specs.Prelude.{ℕ, suc, List, [], ◌∷◌, map, eqb, get_or}
+use Rattle.std.specs.Prelude.{ℕ, suc, List, [], ◌∷◌, map, eqb, get_or, Some, None}
 use Rattle.rules.specs.Words.{pick}
 use Rattle.rules.specs.Bytes.{bytes}
 use Rattle.rules.specs.Codes.{Row}
-use Rattle.rules.specs.declared.Built.{Built}
-use Rattle.rules.specs.declared.Built.TheVariants.{As, No}
+use Rattle.rules.specs.Answers.{Built}
 
 -- the first row with a code, counted from 0; behind the last where no row has it
 unfoldable pub row_in : ℕ → List Row → ℕ
@@ -13,7 +12,7 @@ row_in k (r ∷ rs) = pick (eqb k r.code) 0 (suc (row_in k rs))
 
 -- what stands in a row; behind the last there is no operation and a dash for a name, and any code will do
 abbrev pub row_built : ℕ → List Row → Built
-row_built n rs = get_or (map (λ (r : Row). As r.operation r.class) rs) n No
+row_built n rs = get_or (map (λ (r : Row). Some (r.operation, r.class)) rs) n None
 
 abbrev pub name_at : ℕ → List Row → List ℕ
 name_at n rs = get_or (map (λ (r : Row). r.name) rs) n (bytes "-         ")

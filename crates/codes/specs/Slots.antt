@@ -1,10 +1,9 @@
 -- The table laid out by slots: at each the row of the code that the slot's code is done as. Assumes nothing.
-use Rattle.std.specs.Prelude.{ℕ, zero, suc, ◌≡◌, Bool, List, [], ◌∷◌, eqb, ltb, get_or}
+use Rattle.std.specs.Prelude.{ℕ, zero, suc, ◌≡◌, Bool, List, [], ◌∷◌, eqb, ltb, get_or, None}
 use Rattle.rules.specs.Words.{pick, both}
 use Rattle.rules.specs.Codes.{codes, lookup, pch_code, noop_code}
 use Rattle.rules.specs.Running.{code_done}
-use Rattle.rules.specs.declared.Built.{Built}
-use Rattle.rules.specs.declared.Built.TheVariants.{No}
+use Rattle.rules.specs.Answers.{Built}
 use Rattle.codes.specs.Rows.{row_in, row_built}
 use Rattle.codes.specs.Keys.{key_in, slot_of, code_of_slot}
 
@@ -25,7 +24,7 @@ index_for t = listed (entry_at t) 0 1010
 
 -- what an index has at a slot; nothing behind its last
 abbrev pub built_in : List ℕ → ℕ → Built
-built_in index slot = pick (ltb slot 1010) (row_built (get_or index slot 0) codes) No
+built_in index slot = pick (ltb slot 1010) (row_built (get_or index slot 0) codes) None
 
 -- an index for this mode, and what each order finds in it
 pub record Indexed (t : Bool) (index : List ℕ) : Type 0 where

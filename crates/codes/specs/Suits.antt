@@ -1,14 +1,13 @@
 -- What the table's classes have to do with its operations: arithmetic has the class of its operands, so that it finds out itself whether
 -- they are numbers; READ, PCH and block moves have a class that checks their blocks; no other operation asks for numbers. Assumes nothing.
-use Rattle.std.specs.Prelude.{◌≡◌, Bool, true, false}
+use Rattle.std.specs.Prelude.{◌≡◌, Bool, true, false, Some, None}
+use Rattle.rules.specs.Answers.{Built}
 use Rattle.rules.specs.declared.Reckoning.{Reckoning}
 use Rattle.rules.specs.declared.Reckoning.TheVariants.{Add, Sub, Mpy, Div, Ngmpy, Sqrt, Abs}
 use Rattle.rules.specs.declared.Operation.{Operation}
 use Rattle.rules.specs.declared.Operation.TheVariants.{Reckon, Move, Go, Loop, Change, Read, Pch, Trace, MoveBlock, Compare}
 use Rattle.rules.specs.declared.Class.{Class}
 use Rattle.rules.specs.declared.Class.TheVariants.{Free, TwoNumbers, OneNumber, OneWord, Changed, Linked, BlockOut, BlockIn, BlockMoved, Compared}
-use Rattle.rules.specs.declared.Built.{Built}
-use Rattle.rules.specs.declared.Built.TheVariants.{As, No}
 
 -- the class of arithmetic
 abbrev pub operands_of : Reckoning → Class
@@ -46,5 +45,5 @@ Suits MoveBlock k = k ≡ BlockMoved
 Suits (Compare x) k = asks_numbers k ≡ false
 
 abbrev pub SuitsBuilt : Built → Type 0
-SuitsBuilt No = Unit {0}
-SuitsBuilt (As o k) = Suits o k
+SuitsBuilt None = Unit {0}
+SuitsBuilt (Some (o, k)) = Suits o k

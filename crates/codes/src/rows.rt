@@ -1,7 +1,6 @@
 // The table of built codes, in the newsletter's order, and what is found in it.
-ghost use Rattle.std.specs.Prelude.{◌≡◌, ◌<◌, ◌≤◌};
+ghost use Rattle.std.specs.Prelude.{◌≡◌, ◌<◌, ◌≤◌, Some};
 ghost use Rattle.rules.specs.Codes.{codes, lookup, name_in};
-ghost use Rattle.rules.specs.declared.Built.TheVariants.{As};
 ghost use Rattle.codes.specs.Rows.{code_at, name_at, row_in, row_built};
 
 use rules::Address::{OfA, OfB, OfC};
@@ -99,11 +98,11 @@ const ST_TR_ERAS: Row = Row(452, Trace(StTrEras), Free, *b"ST TR ERAS");
 
 const NOOP: Row = Row(454, Go(Noop), Free, *b"NOOP      ");
 
-// The row with this number, counted from 0: the table. The rows are named here and stand in no array, which the compiler would build anew for
-// each order.
+// The row with this number, counted from 0: the table. The rows are named here and stand in no array. As one static array, looked up by `get`
+// and `find`, it was proved, and missed the bar of bench/run: transfers took 108 instructions an order and not 89, 1.27 times plain C's.
 fn row_at(i: usize) -> Row
     requires { i < 40 }
-    ensures { (result.0 ≡ code_at i codes) × (As result.1 result.2 ≡ row_built i codes) × (result.3 ≡ name_at i codes) }
+    ensures { (result.0 ≡ code_at i codes) × (Some (result.1, result.2) ≡ row_built i codes) × (result.3 ≡ name_at i codes) }
 {
     match i {
         0 => ADD,
@@ -154,12 +153,10 @@ pub(crate) fn built_of(i: u16) -> Built
     ensures { result ≡ row_built i codes }
 {
     if 39 < i {
-        return Built::No;
+        return None;
     }
     let row = row_at(i as usize);
-    let operation = row.1;
-    let class = row.2;
-    Built::As(operation, class)
+    Some((row.1, row.2))
 }
 
 // The code of the row with this number.
@@ -167,22 +164,19 @@ pub(crate) fn code_at(i: usize) -> u64
     requires { i < 40 }
     ensures { result ≡ code_at i codes }
 {
-    let row = row_at(i);
-    row.0
+    row_at(i).0
 }
 
-// The first row with a code, and the one behind the last where the code is not built.
+// The first row with a code, and the one behind the last where the code is not built: a number, as the slots of an index have it.
 fn row_of(code: u64) -> usize
     ensures { (result ≡ row_in code codes) × (result ≤ 40) }
 {
-    let mut i: usize = 0;
-    while i < 40 {
+    for i in 0..40 {
         if code_at(i) == code {
             return i;
         }
-        i += 1;
     }
-    i
+    40
 }
 
 // What a code is.
@@ -192,11 +186,9 @@ pub fn look_up(code: u64) -> Built
     let i = row_of(code);
     if i < 40 {
         let row = row_at(i);
-        let operation = row.1;
-        let class = row.2;
-        return Built::As(operation, class);
+        return Some((row.1, row.2));
     }
-    Built::No
+    None
 }
 
 // The newsletter's name of a code.
@@ -205,8 +197,7 @@ pub fn name_of(code: u64) -> [u8; 10]
 {
     let i = row_of(code);
     if i < 40 {
-        let row = row_at(i);
-        return row.3;
+        return row_at(i).3;
     }
     *b"-         "
 }

@@ -5,32 +5,14 @@
 mod names;
 
 ghost use Rattle.says.specs.Counts.{IsPrefixLen};
-ghost use Rattle.std.specs.Prelude.{◌≡◌, false, IfOk};
+ghost use Rattle.std.specs.Prelude.{◌≡◌, IfOk, IfSome};
 
-use octets::lesser;
 use std::fs::{self, OpenFile, OpenOptions, Permissions};
 use std::io::{ErrorKind, Print, Read, Write};
 use std::os::unix::fs::{OpenOptionsExt, PermissionsExt};
 use std::random::RandomSource;
 use std::rt::Files;
 use std::{io, str};
-
-// Whether a file was read, and how many bytes of the room it took.
-#[derive(Clone, Copy)]
-pub struct Filled {
-    pub good: bool,
-    pub count: usize,
-}
-
-// A file of which nothing was read.
-fn unread() -> Filled
-    ensures { result.count ≡ 0 }
-{
-    Filled {
-        good: false,
-        count: 0,
-    }
-}
 
 // A path as the library takes it, which is text: bytes that are no UTF-8 name no file.
 fn text_of(path: &[u8]) -> io::Result<&str>
@@ -42,43 +24,42 @@ fn text_of(path: &[u8]) -> io::Result<&str>
     }
 }
 
-// One read into what is left of the room; nothing at the file's end. Where it fails, that is said.
-fn read_some<F: Read>(file: &mut F, texts: &impl Print, path: &[u8], rest: &mut [u8]) -> Filled
-    ensures { IsPrefixLen result.count rest.new }
+// One read into what is left of the room: how many bytes, none of them at the file's end. Where it fails, that is said.
+fn read_some<F: Read>(
+    file: &mut F,
+    texts: &impl Print,
+    path: &[u8],
+    rest: &mut [u8],
+) -> Option<usize>
+    ensures { IfSome result (λ n. IsPrefixLen n rest.new) }
 {
     match file.read(rest) {
-        Ok(n) => Filled {
-            good: true,
-            count: n,
-        },
+        Ok(n) => Some(n),
         Err(why) => {
             says::failed(texts, path, &why);
-            unread()
+            None
         }
     }
 }
 
-// Reads the open file at path until the room is full or the file ends. Where it cannot be read, that is said.
-pub fn fill<F: Read>(file: &mut F, texts: &impl Print, path: &[u8], room: &mut [u8]) -> Filled
-    ensures within { IsPrefixLen result.count room.new }
-    ensures none_if_bad { result.good ≡ false → result.count ≡ 0 }
+// Reads the open file at path until the room is full or the file ends: how many bytes. Where it cannot be read, that is said.
+pub fn fill<F: Read>(
+    file: &mut F,
+    texts: &impl Print,
+    path: &[u8],
+    room: &mut [u8],
+) -> Option<usize>
+    ensures { IfSome result (λ n. IsPrefixLen n room.new) }
 {
     let mut at: usize = 0;
     while at < room.len() {
-        let x = read_some(file, texts, path, &mut room[at..]);
-        let n = x.count;
-        if !x.good {
-            return unread();
-        }
+        let n = read_some(file, texts, path, &mut room[at..])?;
         if n == 0 {
             break;
         }
         at += n;
     }
-    Filled {
-        good: true,
-        count: at,
-    }
+    Some(at)
 }
 
 // Opens the file at path for reading.
@@ -86,16 +67,20 @@ pub fn open<R: Files>(rt: &R, path: &[u8]) -> io::Result<R::File> {
     fs::open(rt, text_of(path)?)
 }
 
-// The file at path, as far as the room goes. Where it cannot be read, that is said.
-pub fn read_whole<R: Files>(rt: &R, texts: &impl Print, room: &mut [u8], path: &[u8]) -> Filled
-    ensures within { IsPrefixLen result.count room.new }
-    ensures none_if_bad { result.good ≡ false → result.count ≡ 0 }
+// The file at path, as far as the room goes: how many bytes. Where it cannot be read, that is said.
+pub fn read_whole<R: Files>(
+    rt: &R,
+    texts: &impl Print,
+    room: &mut [u8],
+    path: &[u8],
+) -> Option<usize>
+    ensures { IfSome result (λ n. IsPrefixLen n room.new) }
 {
     match open(rt, path) {
         Ok(mut file) => fill(&mut file, texts, path, room),
         Err(why) => {
             says::failed(texts, path, &why);
-            unread()
+            None
         }
     }
 }
@@ -221,7 +206,7 @@ pub fn replace<R: Files + RandomSource>(
     path: &[u8],
     bytes: &[u8],
 ) -> bool {
-    let mut name = names::path_room();
+    let mut name = octets::room::<4096>();
     let n = names::name_beside(&mut name, path);
     replace_by(rt, texts, &mut name[..n], path, bytes)
 }
@@ -238,7 +223,7 @@ fn is_link_at(rt: &impl Files, text: &str) -> bool {
 // as it was.
 pub fn is_link(rt: &impl Files, path: &[u8]) -> bool {
     let name = names::ended(path);
-    match text_of(&name[..lesser(path.len(), 4095)]) {
+    match text_of(&name[..path.len().min(4095)]) {
         Ok(text) => is_link_at(rt, text),
         Err(_) => false,
     }

@@ -1,9 +1,9 @@
 // Names of files as bytes in a room.
-ghost use Rattle.std.specs.Prelude.{◌≡◌, ◌≤◌, ◌-◌, length, replicate, map};
+ghost use Rattle.std.specs.Prelude.{◌≡◌, ◌≤◌, ◌-◌, length, map};
 ghost use Rattle.says.specs.Counts.{IsPrefixLen};
 ghost use Rattle.disk.specs.Names.{with_part, behind_part, beside_room, beside_size, ended_path, Ended, letter_of, with_end, six_marks};
 
-use octets::{copy, lesser};
+use octets::{copy, room};
 
 // As much of a part as there is room for is put at a place, and the place behind it is answered.
 fn put(out: &mut [u8], at: usize, part: &[u8]) -> usize
@@ -13,7 +13,7 @@ fn put(out: &mut [u8], at: usize, part: &[u8]) -> usize
 {
     let left = out.len() - at;
     copy(out, at, part, 0, left);
-    at + lesser(left, part.len())
+    at + left.min(part.len())
 }
 
 // The name of a new file beside the one at path, in which letters are to stand in place of the last six bytes.
@@ -29,7 +29,7 @@ pub(crate) fn name_beside(name: &mut [u8], path: &[u8]) -> usize
 fn put_end(name: &mut [u8], end: &[u8])
     ensures { name.new ≡ with_end name.old end.now }
 {
-    let at = name.len() - lesser(name.len(), end.len());
+    let at = name.len().saturating_sub(end.len());
     put(name, at, end);
 }
 
@@ -56,19 +56,12 @@ pub(crate) fn put_marks(name: &mut [u8])
     put_end(name, b"XXXXXX");
 }
 
-// 4,096 zeros.
-pub(crate) fn path_room() -> [u8; 4096]
-    ensures { result ≡ replicate 4096 0 }
-{
-    [0; 4096]
-}
-
 // A path as C takes it: at most 4,095 bytes of it, and zeros behind them.
 pub(crate) fn ended(path: &[u8]) -> [u8; 4096]
     ensures bytes { result ≡ ended_path path.now }
     ensures ended { Ended result }
 {
-    let mut name = path_room();
+    let mut name = room::<4096>();
     put(&mut name, 0, path);
     name[4095] = 0;
     name

@@ -1,4 +1,5 @@
 -- A cell of a lent drum and its marks, by its mark and its number, and what cells are held after a store. Assumes nothing.
+use Rattle.std.proofs.Common.{None, Some}
 use Prim.Native.Nat.{ℕ, zero, suc, ◌≤◌, ◌<◌}
 use mathlib.Core.Path.{◌≡◌, refl, sym, ap, ◌∙◌}
 use mathlib.Core.List.{List, [], ◌∷◌}
@@ -9,31 +10,30 @@ use lib.ListN.{length, get_or, set, length-set}
 use borrow.Author.Tests.{lt-ltb}
 use Rattle.rules.specs.Words.{pick}
 use Rattle.rules.specs.Drum.{cell_of, view, cell_at, store}
-use Rattle.rules.specs.declared.Cell.{Cell}
-use Rattle.rules.specs.declared.Cell.TheVariants.{Foreign, Owned}
+use Rattle.rules.specs.Answers.{Cell}
 use Rattle.rules.proofs.Views.{length-overlay, length_marks, marks_store, overlay-store, view_again}
 use Rattle.drum.specs.Held.{Words, Holds, is_cell, Stored}
 
 -- ---- of any runs
 
-pub past_drum : (ds ms : List ℕ) (a : ℕ) → length ds ≤ a → Foreign ≡ cell_at (view ds ms) a
+pub past_drum : (ds ms : List ℕ) (a : ℕ) → length ds ≤ a → None ≡ cell_at (view ds ms) a
 unfolding view
 past_drum [] ms a h = refl
 past_drum (d ∷ ds) [] a h = refl
 past_drum (d ∷ ds) (m ∷ ms) zero h = absurd (not-suc-le-zero h)
 past_drum (d ∷ ds) (m ∷ ms) (suc a) h = past_drum ds ms a (le_of_suc-le-suc h)
 
-pub past_marks : (ds ms : List ℕ) (a : ℕ) → length ms ≤ a → Foreign ≡ cell_at (view ds ms) a
+pub past_marks : (ds ms : List ℕ) (a : ℕ) → length ms ≤ a → None ≡ cell_at (view ds ms) a
 unfolding view
 past_marks [] ms a h = refl
 past_marks (d ∷ ds) [] a h = refl
 past_marks (d ∷ ds) (m ∷ ms) zero h = absurd (not-suc-le-zero h)
 past_marks (d ∷ ds) (m ∷ ms) (suc a) h = past_marks ds ms a (le_of_suc-le-suc h)
 
-foreign_by : (m d : ℕ) → m ≡ 0 → Foreign ≡ cell_of m d
+foreign_by : (m d : ℕ) → m ≡ 0 → None ≡ cell_of m d
 foreign_by m d e = rw e
 
-owned_by : (m d : ℕ) → (m ≡ 0 → ⊥) → Owned d ≡ cell_of m d
+owned_by : (m d : ℕ) → (m ≡ 0 → ⊥) → Some d ≡ cell_of m d
 owned_by zero d n = absurd (n refl)
 owned_by (suc m) d n = refl
 
@@ -45,10 +45,10 @@ cell_at_lem (d ∷ ds) (m ∷ ms) zero h k = refl
 cell_at_lem (d ∷ ds) (m ∷ ms) (suc a) h k = cell_at_lem ds ms a (le_of_suc-le-suc h) (le_of_suc-le-suc k)
 
 module _ (ds ms : List ℕ) (a : ℕ) (h : a < length ds) (k : a < length ms) where
-  pub unmarked : get_or ms a 0 ≡ 0 → Foreign ≡ cell_at (view ds ms) a
+  pub unmarked : get_or ms a 0 ≡ 0 → None ≡ cell_at (view ds ms) a
   unmarked e = foreign_by (get_or ms a 0) (get_or ds a 0) e ∙ cell_at_lem ds ms a h k
 
-  pub marked : (get_or ms a 0 ≡ 0 → ⊥) → Owned (get_or ds a 0) ≡ cell_at (view ds ms) a
+  pub marked : (get_or ms a 0 ≡ 0 → ⊥) → Some (get_or ds a 0) ≡ cell_at (view ds ms) a
   marked n = owned_by (get_or ms a 0) (get_or ds a 0) n ∙ cell_at_lem ds ms a h k
 
 -- ---- of runs that hold cells
@@ -86,7 +86,7 @@ module _ {drum₀ drum marks : List ℕ} {v : List Cell} (h : Holds drum₀ drum
             ∙ ap (λ (x : List ℕ). set x a 1) h.marks_are
             ∙ marks_store v a w;
         old_long = h.old_long;
-        long = length-set v a (Owned w) ∙ h.long;
+        long = length-set v a (Some w) ∙ h.long;
         words = store_words v a w g h.words;
       }
 

@@ -1,47 +1,48 @@
 -- A block whose cells are all marked, cell by cell, and its words as those of a card. Assumes nothing.
-use Prim.Native.Nat.{ℕ, zero, suc, ◌+◌, ◌≤◌, ◌<◌}
+use Prim.Native.Nat.{ℕ, zero, suc, ◌+◌, ◌≤◌, ◌<◌, min}
 use mathlib.Core.Path.{◌≡◌, refl, sym, ap, ◌∙◌}
 use mathlib.Core.List.{List}
-use mathlib.Core.Bool.{Bool, true, false}
-use native.Mathlib.Numerals.{add-one}
+use mathlib.Core.Bool.{Bool, true, false, ◌&&◌}
 use native.Mathlib.Omega.{arith}
-use lib.Dec.{eqb, leb}
+use lib.Dec.{leb}
 use lib.ListN.{length, take}
-use borrow.Author.Tests.{ne_eqb, leb-true, leb-false}
+use borrow.Author.Tests.{leb-true, leb-false}
+use Rattle.std.specs.List.{list_all, range_with_len}
 use Rattle.rules.specs.Words.{both}
 use Rattle.rules.specs.Drum.{view, is_owned, shown, word_at}
 use Rattle.rules.specs.Codes.{owned_at, owned_from}
 use Rattle.rules.specs.Orders.{words_from}
-use Rattle.rules.specs.declared.Cell.{Cell}
+use Rattle.rules.specs.Answers.{Cell}
 use Rattle.drum.specs.Blocks.{first_words}
 use Rattle.drum.proofs.Cells.{past_drum}
 
-module _ (v : List Cell) (b : ℕ) where
-  pub owned_none : true ≡ owned_from v b 0
+module _ (v : List Cell) where
+  -- the first of the cells may be looked at first
+  owned_first : (n b : ℕ) → owned_from v b (suc n) ≡ both (owned_at v b) (owned_from v (b + 1) n)
   unfolding owned_from
-  owned_none = refl
-
-  pub owned_more : (i : ℕ) → owned_from v b i ≡ true → owned_at v (b + i) ≡ true → owned_from v b (i + 1) ≡ true
-  unfolding owned_from
-  owned_more i e f = rw (add-one, e, f)
-
-  -- one that is not owned is enough
-  pub owned_fails : (i n : ℕ) → i < n → owned_at v (b + i) ≡ false → false ≡ owned_from v b n
-  unfolding owned_from
-  owned_fails i zero l f = let z : ⊥ = omega arith in absurd z
-  owned_fails i (suc n) l f = by_last (owned_from v b n) refl (owned_at v (b + n)) refl (λ q. owned_fails i n q f)
+  owned_first zero b = ap (λ (i : ℕ). owned_at v i) (omega arith) ∙ alone (owned_at v b)
     where
-      by_last : (x : Bool) → owned_from v b n ≡ x → (y : Bool) → owned_at v (b + n) ≡ y → (i < n → false ≡ owned_from v b n) → false ≡ both x y
-      by_last false p y q r = refl
-      by_last true p false q r = refl
-      by_last true p true q r = by_place (leb n i) refl
-        where
-          by_place : (t : Bool) → leb n i ≡ t → false ≡ true
-          by_place true u = sym f ∙ ap (λ (j : ℕ). owned_at v (b + j)) (last i n l (leb-true n i u)) ∙ q
-            where
-              last : (i n : ℕ) → i < suc n → n ≤ i → i ≡ n
-              last i n l k = omega arith
-          by_place false u = r (leb-false n i u) ∙ p
+      alone : (x : Bool) → x ≡ both x true
+      alone true = refl
+      alone false = refl
+  owned_first (suc n) b =
+      ap (λ (x : Bool). both x (owned_at v (b + suc n))) (owned_first n b)
+      ∙ grouped (owned_at v b) (owned_from v (b + 1) n) (owned_at v (b + suc n))
+      ∙ ap (λ (i : ℕ). both (owned_at v b) (both (owned_from v (b + 1) n) (owned_at v i))) (omega arith)
+    where
+      grouped : (x y z : Bool) → both (both x y) z ≡ both x (both y z)
+      grouped true y z = refl
+      grouped false y z = refl
+
+  pub owned_in_range : (n b : ℕ) → list_all (owned_at v) (range_with_len b n) ≡ owned_from v b n
+  unfolding owned_from
+  owned_in_range zero b = refl
+  owned_in_range (suc n) b =
+      ap (λ (x : Bool). owned_at v b && x) (owned_in_range n (b + 1)) ∙ same (owned_at v b) _ ∙ sym (owned_first n b)
+    where
+      same : (x y : Bool) → (x && y) ≡ both x y
+      same true y = refl
+      same false y = refl
 
 -- past the drum nothing is marked, and nothing is shown
 module _ (drum marks : List ℕ) (a : ℕ) (l : length drum ≤ a) where
@@ -51,21 +52,24 @@ module _ (drum marks : List ℕ) (a : ℕ) (l : length drum ≤ a) where
   pub nothing_past : 0 ≡ word_at (view drum marks) a
   nothing_past = ap shown (past_drum drum marks a l)
 
-pub owned_within : (drum marks : List ℕ) (a : ℕ) → owned_at (view drum marks) a ≡ true → a < length drum
-owned_within drum marks a e = by_place (leb (length drum) a) refl
+-- cells that end past the drum are not all marked, and none is shown there
+pub owned_past : (drum marks : List ℕ) (b n : ℕ) → 0 < n → length drum < b + n → false ≡ owned_from (view drum marks) b n
+unfolding owned_from
+owned_past drum marks b zero k l = absurd (omega arith)
+owned_past drum marks b (suc n) k l = rw (unowned_past drum marks (b + n) (omega arith)) (none (owned_from (view drum marks) b n))
   where
-    by_place : (t : Bool) → leb (length drum) a ≡ t → a < length drum
-    by_place true u =
-        let z : ◌≡◌ {A = Bool} false true = sym (unowned_past drum marks a (leb-true (length drum) a u)) ∙ e in
-        let y : ◌≡◌ {A = ℕ} 0 1 = cc in
-        omega arith
-    by_place false u = leb-false (length drum) a u
+    none : (x : Bool) → false ≡ both x false
+    none true = refl
+    none false = refl
 
--- a block that begins past the drum is all marked only where it is empty
-pub block_past : (drum marks : List ℕ) (b n : ℕ) → length drum < b → eqb n 0 ≡ owned_from (view drum marks) b n
-block_past drum marks b zero l = owned_none (view drum marks) b
-block_past drum marks b (suc n) l =
-    ne_eqb (suc n) 0 (λ e. omega arith) ∙ owned_fails (view drum marks) b 0 (suc n) (omega arith) (unowned_past drum marks (b + 0) (omega arith))
+pub shown_past : (drum marks : List ℕ) (a m : ℕ) → length drum ≤ m → word_at (view drum marks) (min a m) ≡ word_at (view drum marks) a
+shown_past drum marks a m l = by_place (leb m a) refl
+  where
+    by_place : (t : Bool) → leb m a ≡ t → word_at (view drum marks) (min a m) ≡ word_at (view drum marks) a
+    by_place true u =
+        let k = leb-true m a u in
+        sym (nothing_past drum marks (min a m) (omega arith)) ∙ nothing_past drum marks a (omega arith)
+    by_place false u = let k = leb-false m a u in ap (λ (i : ℕ). word_at (view drum marks) i) (omega arith)
 
 -- of no more than five words none is left out
 pub gathered : (v : List Cell) (b n : ℕ) → n ≤ 5 → take n (first_words v b n) ≡ words_from v b n

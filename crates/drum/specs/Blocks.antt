@@ -2,7 +2,7 @@
 use Rattle.std.specs.Prelude.{ℕ, ◌+◌, List, [], ◌∷◌, ltb}
 use Rattle.rules.specs.Words.{pick}
 use Rattle.rules.specs.Drum.{word_at}
-use Rattle.rules.specs.declared.Cell.{Cell}
+use Rattle.rules.specs.Answers.{Cell}
 
 -- word i of the n cells from b on, and 0 past them
 abbrev pub word_within : List Cell → ℕ → ℕ → ℕ → ℕ

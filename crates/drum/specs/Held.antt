@@ -4,7 +4,7 @@
 use Rattle.std.specs.Prelude.{ℕ, ◌≤◌, ◌≡◌, List, Bool, ltb, length, set}
 use Rattle.rules.specs.Words.{pick, both}
 use Rattle.rules.specs.Drum.{view, word_at, marks_of, overlay}
-use Rattle.rules.specs.declared.Cell.{Cell}
+use Rattle.rules.specs.Answers.{Cell}
 
 -- each owned cell holds a word
 abbrev pub Words : List Cell → Type 0

@@ -7,31 +7,15 @@ ghost use Rattle.rules.specs.Drum.{cell_of, word_fits, view, drum_fits};
 fn is_cell(mark: u8, number: u64) -> bool
     ensures { result ≡ both (leb mark 1) (word_fits (cell_of mark number)) }
 {
-    if mark == 0 {
-        return true;
-    }
-    if 1 < mark {
-        return false;
-    }
-    number <= 19_999_999_999
+    mark == 0 || mark == 1 && number <= 19_999_999_999
 }
 
 // Whether drum and marks are 1,000 long, each mark is 0 or 1, and each marked cell holds a word.
 pub fn is_fit(drum: &[u64], marks: &[u8]) -> bool
     ensures { result ≡ drum_fits (length drum.now) marks.now (view drum.now marks.now) }
 {
-    if drum.len() != 1000 {
+    if drum.len() != 1000 || marks.len() != 1000 {
         return false;
     }
-    if marks.len() != 1000 {
-        return false;
-    }
-    let mut a: usize = 0;
-    while a < 1000 {
-        if !is_cell(marks[a], drum[a]) {
-            return false;
-        }
-        a += 1;
-    }
-    true
+    marks.iter().zip(drum).all(|(m, w)| is_cell(*m, *w))
 }

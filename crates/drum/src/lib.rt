@@ -1,5 +1,6 @@
 // The cells of a lent drum and its marks: read as the job sees them, stored into, and the checks 10, 20 and 21. Each function takes runs of
-// any length and any address; where there is no cell, there is a foreign one.
+// any length and any address; where there is no cell, there is a foreign one. Drum and marks are two slices and no struct: C lends them
+// apart and to be written, and a struct of the two would need its ghost names in every clause.
 #![tactic(auto)]
 
 mod blocks;
@@ -20,48 +21,34 @@ use rules::Cell;
 pub fn cell(drum: &[u64], marks: &[u8], a: usize) -> Cell
     ensures { result ≡ cell_at (view drum.now marks.now) a }
 {
-    if drum.len() <= a {
-        return Cell::Foreign;
+    let word = drum.get(a)?;
+    let mark = marks.get(a)?;
+    if *mark == 0 {
+        return None;
     }
-    if marks.len() <= a {
-        return Cell::Foreign;
-    }
-    if marks[a] == 0 {
-        return Cell::Foreign;
-    }
-    Cell::Owned(drum[a])
+    Some(*word)
 }
 
 // The word that a cell shows: +0 where it is unmarked.
 pub fn word(drum: &[u64], marks: &[u8], a: usize) -> u64
     ensures { result ≡ word_at (view drum.now marks.now) a }
 {
-    let Cell::Owned(w) = cell(drum, marks, a) else {
-        return 0;
-    };
-    w
+    cell(drum, marks, a).unwrap_or(0)
 }
 
 // Whether a cell is marked.
 pub fn is_owned(drum: &[u64], marks: &[u8], a: usize) -> bool
     ensures { result ≡ owned_at (view drum.now marks.now) a }
 {
-    match cell(drum, marks, a) {
-        Cell::Owned(_) => true,
-        Cell::Foreign => false,
-    }
+    cell(drum, marks, a).is_some()
 }
 
 // A word goes into a cell, which is marked; where there is no such cell nothing is changed.
 pub fn keep(drum: &mut [u64], marks: &mut [u8], a: usize, w: u64)
     ensures { Stored drum.old marks.old a w drum.new marks.new }
 {
-    if drum.len() <= a {
-        return;
+    if a < drum.len() && a < marks.len() {
+        drum[a] = w;
+        marks[a] = 1;
     }
-    if marks.len() <= a {
-        return;
-    }
-    drum[a] = w;
-    marks[a] = 1;
 }

@@ -1,26 +1,19 @@
 -- Every sentence has room in a line: at most 256 bytes. Assumes nothing.
-use Prim.Native.Nat.{ℕ, ◌-◌, ◌≤◌}
-use mathlib.Core.Path.{◌≡◌, ap}
+use Prim.Native.Nat.{ℕ, ◌≤◌}
 use mathlib.Core.List.{List}
 use mathlib.Core.Bool.{Bool, true, false}
 use native.Mathlib.Omega.{arith}
 use lib.Dec.{eqb}
-use lib.ListN.{length, get_or, take, drop, replicate, length-append, length-take}
-use lib.Seq.{take_all, take-append_seam}
+use lib.ListN.{length, get_or, drop, length-append, length-take}
 use Rattle.rules.specs.Words.{pick}
 use Rattle.rules.specs.Bytes.{bytes}
 use Rattle.rules.specs.Cards.{width, is_digit}
-use Rattle.rules.specs.Running.{over}
 use Rattle.rules.specs.declared.Fault.{Fault}
 use Rattle.rules.specs.declared.Fault.TheVariants.{UnknownKind, SecondFirst, CutShort, BadByte, BadPlace}
-use Rattle.rules.specs.declared.DeckFault.{DeckFault}
-use Rattle.rules.specs.declared.DeckFault.TheVariants.{TooLong, At, NoFirst}
 use Rattle.rules.proofs.Digits.{length_digits}
 use Rattle.rules.proofs.Fields.{width_small}
-use Rattle.faults.specs.Lines.{Says}
 use Rattle.faults.specs.Sentences.{numeral, is_letter, is_mark, word_name, field_name, due_name, blank_name, byte_name, place_behind, head_of, found, field_at, due_at, highest}
-use Rattle.faults.specs.Sentences.{card_sentence, none_sentence, card_line, none_line, card_from_start, deck_line}
-use Rattle.faults.specs.declared.lines.Line.{Line}
+use Rattle.faults.specs.Sentences.{card_sentence, none_sentence, card_line, none_line}
 use Rattle.faults.specs.declared.layout.Field.{Field}
 use Rattle.faults.specs.declared.layout.Field.TheVariants.{Kind, CardNumber, Location, Word, Problem, FirstOrder, StopNumber, Count, Shown}
 use Rattle.faults.specs.declared.layout.Due.{Due}
@@ -106,22 +99,3 @@ card_short k p f o d = simp length-append (omega (arith, sentence_short k p f o 
 pub none_short : (k p : ℕ) → length (none_line k p) ≤ 256
 unfolding none_sentence bytes
 none_short k p = simp length-append (omega (arith, head_short k Kind TheFirst p))
-
-pub deck_short : (deck : List ℕ) (f : DeckFault) → length (deck_line deck f) ≤ 256
-unfolding deck_line bytes
-deck_short deck TooLong = omega arith
-deck_short deck (At p f b) = card_short (card_from_start deck p) p f (b - p) (drop p deck)
-deck_short deck (NoFirst n) = none_short (card_from_start deck n) n
-
--- what a line says lies within it
-pub says_within : {l : Line} {s : List ℕ} → Says l s → l.size ≤ length l.bytes
-unfolding over
-says_within {l} {s} h =
-    let a = take 256 s in
-    omega (arith, h.size, ap length h.bytes, length-append a (drop (length a) (replicate 256 0)))
-
--- so what is sent of a line is all of it
-pub says_whole : {l : Line} (s : List ℕ) → Says l s → length s ≤ 256 → take l.size l.bytes ≡ s
-unfolding over
-says_whole s h short =
-    rw (h.size, h.bytes, take_all 256 s short) (take-append_seam s (drop (length s) (replicate 256 0)))

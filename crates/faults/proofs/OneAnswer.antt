@@ -4,8 +4,6 @@ use mathlib.Core.Path.{◌≡◌, sym, ◌∙◌}
 use mathlib.Core.List.{List}
 use Prim.Native.Nat.{ℕ}
 use Rattle.rules.proofs.Agreed.{OneResult}
-use Rattle.faults.specs.Lines.{Says}
-use Rattle.faults.specs.declared.lines.Line.{Line}
 use Rattle.faults.proofs.counts.sum.Kinds as sum-kinds
 use Rattle.faults.proofs.counts.sum.Reads as sum
 use Rattle.faults.proofs.lines.empty.Kinds as empty-kinds
@@ -20,8 +18,8 @@ use Rattle.faults.proofs.sentences.of_none.Kinds as of-none-kinds
 use Rattle.faults.proofs.sentences.of_none.Reads as of_none
 
 -- two lines that say the same
-pub same_line : {x y : Line} {s : List ℕ} → Says x s → Says y s → x ≡ y
-same_line p q = λ i. record { bytes = (p.bytes ∙ sym q.bytes) i; size = (p.size ∙ sym q.size) i }
+pub same_line : {x y s : List ℕ} → x ≡ s → y ≡ s → x ≡ y
+same_line p q = p ∙ sym q
 
 pub one_of_card : OneResult 1 of-card-kinds.ps of-card-kinds.r of-card.Post
 one_of_card κs a x y s t p q = same_line p q

@@ -1,16 +1,15 @@
 -- Sentences that are worked out. Assumes nothing.
-use Rattle.std.specs.Prelude.{ℕ, ◌≡◌, List, [], ◌∷◌, ◌++◌}
+use Rattle.std.specs.Prelude.{ℕ, ◌≡◌, List, [], ◌∷◌, ◌++◌, Ok, Err}
 use Prim.Native.String.{String}
 use Rattle.rules.specs.Bytes.{bytes, line_end}
 use Rattle.rules.specs.Decks.{deck_of}
-use Rattle.rules.specs.declared.Deck.{Deck}
-use Rattle.rules.specs.declared.Deck.TheVariants.{Good, Faulty}
+use Rattle.rules.specs.Answers.{Deck}
 use Rattle.faults.specs.Sentences.{deck_line}
 
 -- what is told of a deck as it is checked
 abbrev pub told : List ℕ → Deck → List ℕ
-told deck (Good behind order problem) = []
-told deck (Faulty f) = deck_line deck f
+told deck (Ok start) = []
+told deck (Err f) = deck_line deck f
 
 abbrev pub Tells : String → String → Type 0
 Tells deck sentence = told (bytes deck) (deck_of (bytes deck)) ≡ bytes sentence ++ line_end ∷ []

@@ -9,34 +9,21 @@ use rules::Card;
 pub fn sum(a: usize, b: usize) -> usize
     ensures { result ≡ place_behind a b }
 {
-    if usize::MAX - a < b {
-        return usize::MAX;
-    }
-    a + b
+    a.saturating_add(b)
 }
 
-// How many bytes the card at a place has; 0 where it has a fault, or there is none.
+// How many bytes the card at a place has; 0 where it has a fault, or there is none, as `card_size` of the rules has it: an Option is no plainer.
 fn size_at(deck: &[u8], at: usize) -> usize
     ensures { result ≡ card_size (card_at deck.now at) }
 {
     match card::card_at(deck, at) {
-        Card::Data {
-            number: _,
-            location: _,
-            words: _,
-            problem: _,
-            size,
-        } => size,
-        Card::First {
-            order: _,
-            problem: _,
-        } => 7,
-        Card::Bad(_, _) => 0,
-        Card::End => 0,
+        Card::Data { size, .. } => size,
+        Card::First { .. } => 7,
+        Card::Bad(..) | Card::End => 0,
     }
 }
 
-// How many cards of a deck begin before a place, up to one with a fault.
+// How many cards of a deck begin before a place, up to one with a fault. A step is a card's size; an iterator for this walk alone is no plainer.
 fn count_before(deck: &[u8], place: usize) -> usize
     ensures { result ≡ count_before place (cards_from deck.now 0) }
 {

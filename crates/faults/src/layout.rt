@@ -3,7 +3,7 @@ ghost use Rattle.std.specs.Prelude.{◌≡◌, ◌-◌, ◌≤◌};
 ghost use Rattle.faults.specs.Sentences.{words_of, data_field, stop_field, field_at, due_at, highest};
 
 // A field of a card.
-#[derive(Clone, Copy)]
+#[derive(Clone, Copy, Debug, PartialEq, Eq)]
 pub enum Field {
     Kind,
     CardNumber,
@@ -17,7 +17,7 @@ pub enum Field {
 }
 
 // What is due at a place: a digit or a sign; as a kind one of a deck, of a data card or of the first-order card; or a location up to one.
-#[derive(Clone, Copy)]
+#[derive(Clone, Copy, Debug, PartialEq, Eq)]
 pub enum Due {
     Digit,
     Sign,
@@ -27,7 +27,7 @@ pub enum Due {
     Upto(u64),
 }
 
-// How many words a card of that kind has.
+// How many words a card of that kind has. A kind is a byte of any file, known or not, as the definitions have it, so an enum is no plainer.
 fn words_of(kind: u8) -> usize
     ensures { (result ≡ words_of kind) × (result ≤ 6) }
 {

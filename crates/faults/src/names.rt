@@ -1,64 +1,43 @@
 // What sentences call the parts of a card, what is due, and the byte that stands there.
 ghost use Rattle.std.specs.Prelude.{◌≡◌, [], ◌∷◌, ◌++◌};
 ghost use Rattle.rules.specs.Cards.{digits};
-ghost use Rattle.faults.specs.Lines.{Adds};
+ghost use Rattle.faults.specs.Lines.{as_far};
 ghost use Rattle.faults.specs.Sentences.{is_letter, word_name, field_name, due_name, blank_name, byte_name};
 
 use crate::layout::{Due, Field};
-use crate::lines::{Line, with, with_number};
+use crate::lines::Line;
 use octets::{is_digit, put_field};
 
-// With the name of word i behind it.
-fn with_word(line: Line, i: usize) -> Line
-    ensures { Adds line (word_name i) result }
+// The name of word i.
+fn word_name(i: usize) -> &'static [u8]
+    ensures { result.now ≡ word_name i }
 {
     match i {
-        0 => with(line, b"first word"),
-        1 => with(line, b"second word"),
-        2 => with(line, b"third word"),
-        3 => with(line, b"fourth word"),
-        4 => with(line, b"fifth word"),
-        _ => with(line, b"sixth word"),
+        0 => b"first word",
+        1 => b"second word",
+        2 => b"third word",
+        3 => b"fourth word",
+        4 => b"fifth word",
+        _ => b"sixth word",
     }
 }
 
-// With the name of a field behind it.
-pub(crate) fn with_field(line: Line, field: Field) -> Line
-    ensures { Adds line (field_name field) result }
-{
-    match field {
-        Field::Kind => with(line, b"kind"),
-        Field::CardNumber => with(line, b"card number"),
-        Field::Location => with(line, b"location"),
-        Field::Word(i) => with_word(line, i),
-        Field::Problem => with(line, b"problem number"),
-        Field::FirstOrder => with(line, b"first order"),
-        Field::StopNumber => with(line, b"stop number"),
-        Field::Count => with(line, b"count"),
-        Field::Shown => with(line, b"word"),
-    }
-}
-
-// With three digits of a number behind it.
-fn with_three(line: Line, x: u64) -> Line
-    ensures { Adds line (digits 3 x) result }
-{
-    let mut room = [0u8; 3];
-    put_field(&mut room, 0, 3, x);
-    with(line, &room)
-}
-
-// With what is due behind it.
-pub(crate) fn with_due(line: Line, due: Due) -> Line
-    ensures { Adds line (due_name due) result }
-{
-    match due {
-        Due::Digit => with(line, b"a digit"),
-        Due::Sign => with(line, b"a sign"),
-        Due::Kinds => with(line, b"1 to 5 or T"),
-        Due::DataKinds => with(line, b"1 to 5"),
-        Due::TheFirst => with(line, b"T"),
-        Due::Upto(n) => with_three(with(line, b"001 to "), n),
+impl Field {
+    // Its name.
+    pub(crate) fn name(self) -> &'static [u8]
+        ensures { result.now ≡ field_name self }
+    {
+        match self {
+            Field::Kind => b"kind",
+            Field::CardNumber => b"card number",
+            Field::Location => b"location",
+            Field::Word(i) => word_name(i),
+            Field::Problem => b"problem number",
+            Field::FirstOrder => b"first order",
+            Field::StopNumber => b"stop number",
+            Field::Count => b"count",
+            Field::Shown => b"word",
+        }
     }
 }
 
@@ -66,55 +45,72 @@ pub(crate) fn with_due(line: Line, due: Due) -> Line
 fn is_letter(b: u8) -> bool
     ensures { result ≡ is_letter b }
 {
-    match b {
-        b'A'..=b'Z' => true,
-        b'a'..=b'z' => true,
-        _ => false,
-    }
+    b.is_ascii_alphabetic()
 }
 
-// With the name of a byte behind it that cannot be seen.
-fn with_blank(line: Line, b: u8) -> Line
-    ensures { Adds line (blank_name b) result }
-{
-    match b {
-        9 => with(line, b"a tab"),
-        10 => with(line, b"a line end"),
-        13 => with(line, b"a carriage return"),
-        32 => with(line, b"a space"),
-        _ => with_number(with(line, b"number "), b as u64),
+impl Line {
+    // With three digits of a number behind it.
+    fn with_three(self, x: u64) -> Line
+        ensures { result ≡ as_far (self ++ digits 3 x) }
+    {
+        let mut room = [0u8; 3];
+        put_field(&mut room, 0, 3, x);
+        self.with(&room)
     }
-}
 
-// With a text and one byte behind it.
-fn with_seen(line: Line, text: &[u8], b: u8) -> Line
-    ensures { Adds line (text.now ++ b ∷ []) result }
-{
-    let one = [b; 1];
-    with(with(line, text), &one)
-}
+    // With what is due behind it.
+    pub(crate) fn with_due(self, due: Due) -> Line
+        ensures { result ≡ as_far (self ++ due_name due) }
+    {
+        match due {
+            Due::Digit => self.with(b"a digit"),
+            Due::Sign => self.with(b"a sign"),
+            Due::Kinds => self.with(b"1 to 5 or T"),
+            Due::DataKinds => self.with(b"1 to 5"),
+            Due::TheFirst => self.with(b"T"),
+            Due::Upto(n) => self.with(b"001 to ").with_three(n),
+        }
+    }
 
-// With the name of a byte behind it.
-pub(crate) fn with_byte(line: Line, b: u8) -> Line
-    ensures { Adds line (byte_name b) result }
-{
-    if b == b'+' {
-        return with(line, b"a plus sign");
+    // With the name of a byte behind it that cannot be seen.
+    fn with_blank(self, b: u8) -> Line
+        ensures { result ≡ as_far (self ++ blank_name b) }
+    {
+        match b {
+            b'\t' => self.with(b"a tab"),
+            b'\n' => self.with(b"a line end"),
+            b'\r' => self.with(b"a carriage return"),
+            b' ' => self.with(b"a space"),
+            _ => self.with(b"number ").with_number(b as u64),
+        }
     }
-    if b == b'-' {
-        return with(line, b"a minus sign");
+
+    // With a text and one byte behind it.
+    fn with_seen(self, text: &[u8], b: u8) -> Line
+        ensures { result ≡ as_far (self ++ (text.now ++ b ∷ [])) }
+    {
+        self.with(text).with(&[b])
     }
-    if is_digit(b) {
-        return with_seen(line, b"a digit ", b);
+
+    // With the name of a byte behind it.
+    pub(crate) fn with_byte(self, b: u8) -> Line
+        ensures { result ≡ as_far (self ++ byte_name b) }
+    {
+        if b == b'+' {
+            return self.with(b"a plus sign");
+        }
+        if b == b'-' {
+            return self.with(b"a minus sign");
+        }
+        if is_digit(b) {
+            return self.with_seen(b"a digit ", b);
+        }
+        if is_letter(b) {
+            return self.with_seen(b"a letter ", b);
+        }
+        if b.is_ascii_graphic() {
+            return self.with_seen(b"a mark ", b);
+        }
+        self.with_blank(b)
     }
-    if is_letter(b) {
-        return with_seen(line, b"a letter ", b);
-    }
-    if b < 33 {
-        return with_blank(line, b);
-    }
-    if 126 < b {
-        return with_blank(line, b);
-    }
-    with_seen(line, b"a mark ", b)
 }

@@ -1,37 +1,41 @@
 // The sentence for each fault of a card and of a deck, text behind text.
-ghost use Rattle.std.specs.Prelude.{◌≡◌, ◌-◌, take, drop};
-ghost use Rattle.faults.specs.Lines.{Says, Adds};
+ghost use Rattle.std.specs.Prelude.{◌≡◌, ◌-◌, ◌++◌, take, drop};
+ghost use Rattle.faults.specs.Lines.{as_far};
 ghost use Rattle.faults.specs.Sentences.{head_of, found, card_sentence, card_line, long_line, none_line, deck_line};
 ghost use Rattle.rules.specs.declared.Fault.TheVariants.{UnknownKind, CutShort, BadByte, BadPlace};
 
 use crate::counts::{card_from_start, sum};
 use crate::layout::{Due, Field, due_at, field_at, highest_of};
-use crate::lines::{Line, empty, with, with_number};
-use crate::names::{with_byte, with_due, with_field};
+use crate::lines::{Line, empty};
 use octets::byte_at;
 use rules::{DeckFault, Fault};
 
 // How each begins that is about a card.
 fn head(k: usize, field: Field, due: Due, place: usize) -> Line
-    ensures { Says result (head_of k field due place) }
+    ensures { result ≡ as_far (head_of k field due place) }
 {
-    let card = with_number(with(empty(), b"card "), k as u64);
-    let its = with_field(with(card, b", its "), field);
-    let is = with_due(with(its, b": "), due);
-    let at = with_number(with(is, b" is due at byte "), place as u64);
-    with(at, b", and ")
+    empty()
+        .with(b"card ")
+        .with_number(k as u64)
+        .with(b", its ")
+        .with(field.name())
+        .with(b": ")
+        .with_due(due)
+        .with(b" is due at byte ")
+        .with_number(place as u64)
+        .with(b", and ")
 }
 
 // The byte that is not the one due, behind such a beginning.
 fn with_found(line: Line, b: u8) -> Line
-    ensures { Adds line (found b) result }
+    ensures { result ≡ as_far (line ++ found b) }
 {
-    with_byte(with(line, b"the byte there is "), b)
+    line.with(b"the byte there is ").with_byte(b)
 }
 
 // That a kind is not known.
 fn of_kind(k: usize, place: usize, rest: &[u8]) -> Line
-    ensures { Says result (card_sentence k place UnknownKind 0 rest.now) }
+    ensures { result ≡ as_far (card_sentence k place UnknownKind 0 rest.now) }
 {
     let line = head(k, Field::Kind, Due::Kinds, place);
     with_found(line, byte_at(rest, 0))
@@ -39,7 +43,7 @@ fn of_kind(k: usize, place: usize, rest: &[u8]) -> Line
 
 // That a byte is not the one due.
 fn of_byte(k: usize, place: usize, o: usize, rest: &[u8]) -> Line
-    ensures { Says result (card_sentence k place BadByte o rest.now) }
+    ensures { result ≡ as_far (card_sentence k place BadByte o rest.now) }
 {
     let kind = byte_at(rest, 0);
     let line = head(k, field_at(kind, o), due_at(kind, o), sum(place, o));
@@ -48,51 +52,35 @@ fn of_byte(k: usize, place: usize, o: usize, rest: &[u8]) -> Line
 
 // That a card is cut short.
 fn of_cut(k: usize, place: usize, rest: &[u8]) -> Line
-    ensures { Says result (card_sentence k place CutShort 0 rest.now) }
+    ensures { result ≡ as_far (card_sentence k place CutShort 0 rest.now) }
 {
     let kind = byte_at(rest, 0);
     let n = rest.len();
-    let line = head(k, field_at(kind, n), due_at(kind, n), sum(place, n));
-    with_number(
-        with(line, b"the file ends there; the card begins at byte "),
-        place as u64,
-    )
+    head(k, field_at(kind, n), due_at(kind, n), sum(place, n))
+        .with(b"the file ends there; the card begins at byte ")
+        .with_number(place as u64)
 }
 
-// With three bytes behind it, those from place o on, or as many as there are.
-fn with_digits(line: Line, rest: &[u8], o: usize) -> Line
-    ensures { Adds line (take 3 (drop o rest.now)) result }
-{
-    let n = rest.len();
-    if n <= o {
-        return with(line, b"");
-    }
-    if n - o < 3 {
-        return with(line, &rest[o..n]);
-    }
-    let e = o + 3;
-    with(line, &rest[o..e])
-}
-
-// That a location or a first order is out of range.
+// That a location or a first order is out of range, and the three digits there, or as many as there are.
 fn of_place(k: usize, place: usize, o: usize, rest: &[u8]) -> Line
-    ensures { Says result (card_sentence k place BadPlace o rest.now) }
+    ensures { result ≡ as_far (card_sentence k place BadPlace o rest.now) }
 {
     let kind = byte_at(rest, 0);
     let due = Due::Upto(highest_of(kind));
-    let line = head(k, field_at(kind, o), due, sum(place, o));
-    with_digits(with(line, b"the digits there are "), rest, o)
+    let found = rest_of(rest, o);
+    head(k, field_at(kind, o), due, sum(place, o))
+        .with(b"the digits there are ")
+        .with(&found[..found.len().min(3)])
 }
 
 // What is wrong with a card, without the line end.
 fn said_of(k: usize, place: usize, fault: Fault, o: usize, rest: &[u8]) -> Line
-    ensures { Says result (card_sentence k place fault o rest.now) }
+    ensures { result ≡ as_far (card_sentence k place fault o rest.now) }
 {
     match fault {
         Fault::UnknownKind => of_kind(k, place, rest),
         Fault::SecondFirst => {
-            let line = head(k, Field::Kind, Due::DataKinds, place);
-            with(line, b"the byte there is a second T")
+            head(k, Field::Kind, Due::DataKinds, place).with(b"the byte there is a second T")
         }
         Fault::CutShort => of_cut(k, place, rest),
         Fault::BadByte => of_byte(k, place, o, rest),
@@ -102,50 +90,36 @@ fn said_of(k: usize, place: usize, fault: Fault, o: usize, rest: &[u8]) -> Line
 
 // What is wrong at the byte o of card k of a file, which begins at a place, and where the rest of the file is these bytes.
 pub fn of_card(k: usize, place: usize, fault: Fault, o: usize, rest: &[u8]) -> Line
-    ensures { Says result (card_line k place fault o rest.now) }
+    ensures { result ≡ card_line k place fault o rest.now }
 {
-    with(said_of(k, place, fault, o, rest), b"\n")
+    said_of(k, place, fault, o, rest).with(b"\n")
 }
 
 // That a file is too long for a deck.
 pub fn of_long() -> Line
-    ensures { Says result long_line }
+    ensures { result ≡ long_line }
 {
-    with(
-        empty(),
-        b"at most 65536 bytes are due in a deck, and the file is longer\n",
-    )
+    empty().with(b"at most 65536 bytes are due in a deck, and the file is longer\n")
 }
 
 // That a file ends at a place without a first-order card; the next card would be card k.
 pub fn of_none(k: usize, place: usize) -> Line
-    ensures { Says result (none_line k place) }
+    ensures { result ≡ none_line k place }
 {
     let line = head(k, Field::Kind, Due::TheFirst, place);
-    with(line, b"the file ends there with no first-order card\n")
+    line.with(b"the file ends there with no first-order card\n")
 }
 
 // What is left of a deck from a place on.
 fn rest_of(deck: &[u8], at: usize) -> &[u8]
     ensures { result.now ≡ drop at deck.now }
 {
-    let n = deck.len();
-    if n < at {
-        return &deck[n..n];
-    }
-    &deck[at..n]
-}
-
-// The difference of two numbers, or 0.
-fn less(a: usize, b: usize) -> usize
-    ensures { result ≡ a - b }
-{
-    if a < b { 0 } else { a - b }
+    deck.get(at..).unwrap_or(&[])
 }
 
 // What is wrong with a deck.
 pub fn of_deck(deck: &[u8], fault: DeckFault) -> Line
-    ensures { Says result (deck_line deck.now fault) }
+    ensures { result ≡ deck_line deck.now fault }
 {
     match fault {
         DeckFault::TooLong => of_long(),
@@ -153,16 +127,13 @@ pub fn of_deck(deck: &[u8], fault: DeckFault) -> Line
             card,
             fault: wrong,
             byte,
-        } => {
-            let rest = rest_of(deck, card);
-            of_card(
-                card_from_start(deck, card),
-                card,
-                wrong,
-                less(byte, card),
-                rest,
-            )
-        }
+        } => of_card(
+            card_from_start(deck, card),
+            card,
+            wrong,
+            byte.saturating_sub(card),
+            rest_of(deck, card),
+        ),
         DeckFault::NoFirst(n) => of_none(card_from_start(deck, n), n),
     }
 }

@@ -15,7 +15,7 @@ one_written κs a x y s t p q = (p.answer ∙ sym q.answer, p.bytes ∙ sym q.by
 pub one_found : Agrees 3 read-file-kinds.ps read-file-kinds.r read-file.Post
     (λ κs x y s t. (x ≡ y) × (s.0.now ≡ t.0.now) × (s.1.0.now ≡ t.1.0.now))
 one_found κs a x y s t p q = (
-  λ i. record { good = (p.good_is ∙ sym q.good_is) i; state = (p.state_is ∙ sym q.state_is) i },
+  p.found_is ∙ sym q.found_is,
   p.drum_is ∙ sym q.drum_is,
   p.marks_are ∙ sym q.marks_are,
 )

@@ -1,9 +1,9 @@
 -- A text read byte by byte into cells: the numbers that have ended are the first cells, and what is left of the text has the numbers of
 -- the whole. Assumes nothing.
+use Rattle.std.proofs.Common.{Option, Some}
 use mathlib.Core.Path.{◌≡◌, refl, sym, ap, ap₂, ◌∙◌}
 use mathlib.Core.List.{List, [], ◌∷◌}
 use mathlib.Core.Bool.{Bool, true, false}
-use mathlib.Core.Option.{Option, some}
 use Prim.Native.Nat.{ℕ, ◌+◌, ◌≤◌, ◌<◌}
 use native.Mathlib.Numerals.{add-one}
 use native.Mathlib.Omega.{arith}
@@ -29,7 +29,7 @@ pub reading_begins : (text cells : List ℕ) → Reading (length cells) text cel
 unfolding numbers_in
 reading_begins text cells = record { whole = refl; few = omega arith; far = omega arith; same = refl }
 
--- a number that ends is the next cell, and counted even where there is none
+-- a number that ends is the next cell, and counted even where there is None
 length-ended : (cells : List ℕ) (n : ℕ) (begun : Bool) (x : ℕ) → n ≤ length cells → length (ended (take n cells) begun x) ≡ pick begun (n + 1) n
 length-ended cells n true x h = length-append (take n cells) (x ∷ []) ∙ omega (arith, length-take-le n cells h)
 length-ended cells n false x h = length-take-le n cells h
@@ -109,11 +109,11 @@ module _ {size : ℕ} {text cells : List ℕ} {n : ℕ} {begun : Bool} {x i : �
   unfolding numbers_from is_count
   reading_ends m after h p q =
       let k : length after ≡ length cells = ap length q ∙ length_after cells n begun x in
-      let found : numbers_in text ≡ some (ended (take n cells) begun x) =
+      let found : numbers_in text ≡ Some (ended (take n cells) begun x) =
       sym r.same ∙ ap (numbers_from (take n cells) begun x) (drop_of_length-le text h) in
       record {
         answer = ap₂ eqb (p ∙ sym (length-ended cells n begun x r.few)) (k ∙ r.whole) ∙ sym (ap (is_count size) found);
         numbers = λ t.
             let e : m ≡ length after = eqb-true m (length after) t in
-            found ∙ ap some (sym (ended_cells cells n begun x (omega arith)) ∙ sym (ap₂ take p q) ∙ take_all m after (omega arith));
+            found ∙ ap Some (sym (ended_cells cells n begun x (omega arith)) ∙ sym (ap₂ take p q) ∙ take_all m after (omega arith));
       }

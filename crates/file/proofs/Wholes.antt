@@ -1,18 +1,17 @@
 -- How reading ends: a length is wrong and nothing is changed, or all is read. Assumes nothing.
+use Rattle.std.proofs.Common.{Some, None}
 use mathlib.Core.Path.{◌≡◌, refl, sym, ap, ap₂, ◌∙◌}
 use mathlib.Core.List.{List}
 use mathlib.Core.Bool.{Bool, true, false}
-use mathlib.Core.Option.{some}
 use Prim.Native.Nat.{ℕ}
 use lib.Dec.{eqb}
 use lib.ListN.{length}
 use borrow.Author.Tests.{eq-eqb, ne_eqb}
 use Rattle.rules.specs.Words.{pick, both}
-use Rattle.rules.specs.States.{no_state}
 use Rattle.file.specs.Files.{is_whole, drum_in, marks_in, state_of}
 use Rattle.file.specs.Texts.{numbers_in, is_count, numbers_or, fills, drum_filled}
-use Rattle.file.specs.Reads.{is_file, not_found, FileRead, CellsRead}
-use Rattle.file.specs.declared.reading.Found.{Found}
+use Rattle.file.specs.Reads.{is_file, FileRead, CellsRead}
+use Rattle.rules.specs.declared.State.{State}
 
 -- ---- the lengths
 
@@ -43,28 +42,15 @@ no_bytes drum marks bytes n =
 -- ---- a file
 
 module _ (drum marks bytes : List ℕ) where
-  pub not_read : {found : Found} → is_file drum marks bytes ≡ false → found ≡ not_found → FileRead drum marks bytes found drum marks
-  not_read e q =
-      record {
-        good_is = ap (λ (f : Found). f.good) q ∙ sym e;
-        state_is = ap (λ (f : Found). f.state) q ∙ ap (λ (t : Bool). pick t (state_of bytes) no_state) (sym e);
-        drum_is = ap (λ (t : Bool). pick t (drum_in bytes) drum) (sym e);
-        marks_are = ap (λ (t : Bool). pick t (marks_in bytes) marks) (sym e);
-      }
+  pub not_read : is_file drum marks bytes ≡ false → FileRead drum marks bytes None drum marks
+  not_read e = record { found_is = rw e refl; drum_is = rw e refl; marks_are = rw e refl }
 
-  pub was_read : {found : Found} {cells after : List ℕ} → is_file drum marks bytes ≡ true
-      → found.good ≡ true
-      → found.state ≡ state_of bytes
+  pub was_read : {s : State} {cells after : List ℕ} → is_file drum marks bytes ≡ true
+      → s ≡ state_of bytes
       → cells ≡ drum_in bytes
       → after ≡ marks_in bytes
-      → FileRead drum marks bytes found cells after
-  was_read e g s d m =
-      record {
-        good_is = g ∙ sym e;
-        state_is = s ∙ ap (λ (t : Bool). pick t (state_of bytes) no_state) (sym e);
-        drum_is = d ∙ ap (λ (t : Bool). pick t (drum_in bytes) drum) (sym e);
-        marks_are = m ∙ ap (λ (t : Bool). pick t (marks_in bytes) marks) (sym e);
-      }
+      → FileRead drum marks bytes (Some s) cells after
+  was_read e s d m = record { found_is = rw e (ap Some s); drum_is = rw e d; marks_are = rw e m }
 
 -- ---- a text
 
@@ -83,7 +69,7 @@ module _ (drum text : List ℕ) where
       not_filled (ap (λ (t : Bool). both (eqb (length drum) 1000) t) e ∙ neither (eqb (length drum) 1000))
 
   pub was_filled : {after : List ℕ} (cells : List ℕ) → length drum ≡ 1000 → is_count 1000 (numbers_in text) ≡ true
-      → numbers_in text ≡ some cells
+      → numbers_in text ≡ Some cells
       → after ≡ cells
       → CellsRead drum text true after
   unfolding fills drum_filled numbers_or

@@ -1,6 +1,5 @@
 -- The text of cells (house): decimal numbers with gaps between them, and how they are read. Assumes nothing.
-use Rattle.std.specs.Prelude.{ℕ, ◌^◌, List, [], ◌∷◌, ◌++◌, Bool, true, false, eqb, ltb, length}
-use Rattle.std.proofs.Math.Option.{Option, none, some}
+use Rattle.std.specs.Prelude.{ℕ, ◌^◌, List, [], ◌∷◌, ◌++◌, Bool, true, false, eqb, ltb, length, Option, None, Some}
 use Rattle.rules.specs.Words.{pick, both, either}
 use Rattle.rules.specs.Cards.{space_byte, is_digit}
 use Rattle.octets.specs.Longer.{with_digit}
@@ -17,25 +16,25 @@ takes x b = both (is_digit b) (ltb (with_digit x b) (2 ^ 64))
 abbrev pub ended : List ℕ → Bool → ℕ → List ℕ
 ended done begun x = pick begun (done ++ x ∷ []) done
 
--- The numbers of a text, or none where a byte is neither in a gap nor a digit that its number takes. `done` are the numbers that have
+-- The numbers of a text, or None where a byte is neither in a gap nor a digit that its number takes. `done` are the numbers that have
 -- ended before; x is what the digits of the number begun are so far, and 0 in a gap.
 unfoldable pub numbers_from : List ℕ → Bool → ℕ → List ℕ → Option (List ℕ)
-numbers_from done begun x [] = some (ended done begun x)
+numbers_from done begun x [] = Some (ended done begun x)
 numbers_from done begun x (b ∷ text) =
     pick (is_gap b) (numbers_from (ended done begun x) false 0 text)
-    (pick (takes x b) (numbers_from done true (with_digit x b) text) none)
+    (pick (takes x b) (numbers_from done true (with_digit x b) text) None)
 
 unfoldable pub numbers_in : List ℕ → Option (List ℕ)
 numbers_in text = numbers_from [] false 0 text
 
 -- whether there are numbers, and just n of them; and which, in place of those before
 unfoldable pub is_count : ℕ → Option (List ℕ) → Bool
-is_count n none = false
-is_count n (some numbers) = eqb (length numbers) n
+is_count n None = false
+is_count n (Some numbers) = eqb (length numbers) n
 
 unfoldable pub numbers_or : List ℕ → Option (List ℕ) → List ℕ
-numbers_or before none = before
-numbers_or before (some numbers) = numbers
+numbers_or before None = before
+numbers_or before (Some numbers) = numbers
 
 -- a text of 1,000 numbers fills a drum of 1,000 cells
 unfoldable pub fills : List ℕ → List ℕ → Bool

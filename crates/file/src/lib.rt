@@ -6,6 +6,6 @@ mod reading;
 mod texts;
 mod writing;
 
-pub use reading::{Found, read_file};
+pub use reading::read_file;
 pub use texts::read_cells;
 pub use writing::write_file;

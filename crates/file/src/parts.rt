@@ -10,11 +10,9 @@ fn put_number(out: &mut [u8], a: usize, x: u64)
     ensures { out.new ≡ splice a (low_bytes 8 x) out.old }
 {
     let mut left = x;
-    let mut i: usize = 0;
-    while i < 8 {
+    for i in 0..8 {
         out[a + i] = (left % 256) as u8;
         left = left / 256;
-        i += 1;
     }
 }
 
@@ -23,19 +21,9 @@ pub(crate) fn put_row(out: &mut [u8], a: usize, row: &[u64])
     requires { a + 8 * length row.now ≤ length out.old }
     ensures { out.new ≡ splice a (row_bytes row.now) out.old }
 {
-    let mut i: usize = 0;
-    while i < row.len() {
-        let x = row[i];
-        put_number(out, a + 8 * i, x);
-        i += 1;
+    for i in 0..row.len() {
+        put_number(out, a + 8 * i, row[i]);
     }
-}
-
-// A byte as a number.
-fn wide(b: u8) -> u64
-    ensures { (result ≡ b) × (result ≤ 255) }
-{
-    b as u64
 }
 
 // The number at place a.
@@ -44,11 +32,8 @@ fn number_at(bytes: &[u8], a: usize) -> u64
     ensures { result ≡ number_of (take 8 (drop a bytes.now)) }
 {
     let mut x: u64 = 0;
-    let mut i: usize = 8;
-    while 0 < i {
-        i -= 1;
-        let b = bytes[a + i];
-        x = wide(b) + 256 * x;
+    for i in (0..8).rev() {
+        x = u64::from(bytes[a + i]) + 256 * x;
     }
     x
 }
@@ -58,10 +43,7 @@ pub(crate) fn fill_row(row: &mut [u64], bytes: &[u8], a: usize)
     requires { a + 8 * length row.old ≤ length bytes.now }
     ensures { row.new ≡ row_in (length row.old) (drop a bytes.now) }
 {
-    let mut i: usize = 0;
-    while i < row.len() {
-        let x = number_at(bytes, a + 8 * i);
-        row[i] = x;
-        i += 1;
+    for i in 0..row.len() {
+        row[i] = number_at(bytes, a + 8 * i);
     }
 }

@@ -7,7 +7,6 @@ ghost use Rattle.card.specs.Written.{Wrote};
 use crate::parts::put_row;
 use octets::put_run;
 use rules::State;
-use states::numbers_of;
 
 // The whole of a file: the cells, the marks, and the nine numbers of the state.
 fn put_file(out: &mut [u8], drum: &[u64], marks: &[u8], numbers: &[u64; 9])
@@ -35,7 +34,6 @@ pub fn write_file(out: &mut [u8], drum: &[u64], marks: &[u8], state: State) -> b
     if out.len() < 9072 {
         return false;
     }
-    let numbers = numbers_of(state);
-    put_file(out, drum, marks, &numbers);
+    put_file(out, drum, marks, &<[u64; 9]>::from(state));
     true
 }

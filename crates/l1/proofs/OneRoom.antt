@@ -10,7 +10,7 @@ use lib.ListN.{length}
 use borrow.Author.Tests.{ne_eqb}
 use Rattle.rules.specs.Words.{pick}
 use Rattle.rules.specs.Running.{RunCall, ran}
-use Rattle.rules.specs.declared.Ending.{Ending}
+use Rattle.rules.specs.Answers.{Ending}
 use Rattle.promises.specs.Rooms.{is_full, Came, joined, room_after_room, most_sent}
 use Rattle.promises.proofs.Rooms.{one_large_room, large_enough, full_counts, out_kept}
 use Rattle.l1.specs.Going.{Whole, may_refill, refilled, gone_on}

@@ -7,7 +7,7 @@ use native.Mathlib.Omega.{arith}
 use lib.ListN.{length, length-append, length-drop}
 use Rattle.rules.specs.Numbers.{outcome_number, outcome_shown}
 use Rattle.rules.specs.Running.{RunCall, RunResult, run_from, over, begun, inputs, ran_as, ran}
-use Rattle.rules.specs.declared.Ending.{Ending}
+use Rattle.rules.specs.Answers.{Ending}
 use Rattle.rules.proofs.Tests.{false_true}
 use Rattle.machine.specs.Lent.{RunRight, call_of}
 use Rattle.machine.specs.declared.Ran.{Ran}
@@ -64,7 +64,7 @@ module _ (c : RunCall) {drum marks out : List ℕ} {r : Ran} (right : RunRight (
       (sym (gone_more c n (f - 1) (refill_is true e)) ∙ ap (λ (k : ℕ). gone_on k c n) (let z : suc (f - 1) ≡ f = omega arith in z) ∙ g)
 
   pub run_over : (n f : ℕ) (w : Whole) → may_refill r.ending r.count ≡ false → gone_on f c n ≡ w
-      → WentOn w drum marks (record { sent = true; ending = r.ending; count = n + r.count; state = r.state })
+      → WentOn w drum marks (record { ending = r.ending; count = n + r.count; state = r.state })
   run_over n f w e g =
       let q = sym g ∙ gone_end c n f (refill_is false e) in
       record {

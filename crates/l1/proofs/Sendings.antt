@@ -11,9 +11,8 @@ use lib.Seq.{take-append_seam}
 use Rattle.rules.specs.Words.{pick}
 use Rattle.rules.specs.Running.{over}
 use Rattle.rules.specs.Sheet.{closing}
-use Rattle.rules.specs.declared.Cell.{Cell}
+use Rattle.rules.specs.Answers.{Cell, Ending}
 use Rattle.rules.specs.declared.State.{State}
-use Rattle.rules.specs.declared.Ending.{Ending}
 use Rattle.rules.proofs.Tests.{both_first, both_second}
 use Rattle.card.specs.Written.{fits, Wrote, WroteLine}
 use Rattle.file.specs.Files.{is_whole, file_of}

@@ -3,9 +3,9 @@ use Rattle.std.specs.Prelude.{ℕ, zero, suc, ◌+◌, ◌-◌, ◌≡◌, List,
 use Rattle.rules.specs.Words.{pick}
 use Rattle.rules.specs.Numbers.{ending_number, refusal_number}
 use Rattle.rules.specs.Running.{RunCall, RunResult, ran}
+use Rattle.rules.specs.Answers.{Ending}
 use Rattle.rules.specs.declared.State.{State}
 use Rattle.rules.specs.declared.Refusal.TheVariants.{NoRoom}
-use Rattle.rules.specs.declared.Ending.{Ending}
 use Rattle.l1.specs.declared.sessions.Gone.{Gone}
 
 -- Whether a run that ended so is to go on in an empty room: it was refused for want of room, and not with its first order, which would be

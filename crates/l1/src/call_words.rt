@@ -1,45 +1,18 @@
 // The words of a call as the system has them: they are read, and what they ask for is gathered.
-ghost use Rattle.std.specs.Prelude.{◌≡◌, List, ℕ, length};
+ghost use Rattle.std.specs.Prelude.{◌≡◌, Some, IfSome, List, ℕ};
+ghost use Rattle.std.specs.Result.{result_ok};
 ghost use Rattle.says.specs.Counts.{IsPrefixLen};
-ghost use Rattle.calls.specs.Words.{asked_by, with_next, Read, ReadToEnd};
+ghost use Rattle.calls.specs.Words.{with_word, Read, ReadToEnd};
 
-use calls::{
-    Command, Options, asked_by, at_end, behind_names, is_fine, is_missing, lacks_first, start_of,
-    trouble_of, with_next,
-};
+use calls::{Command, Options, at_end, behind_names, lacks_first, start_of, with_word};
 use std::env::{Env, FillError};
 use std::io;
 use std::io::Print;
 
-// Whether a word could be read as the name of a file, and its length.
-#[derive(Clone, Copy)]
-pub struct Named {
-    pub good: bool,
-    pub count: usize,
-}
-
-// Room for the name of a file.
-pub fn name_room() -> [u8; 4096]
-    ensures { 4096 ≡ length result }
-{
-    [0; 4096]
-}
-
-// Room for any word that a call can have.
-fn word_room() -> [u8; 131072]
-    ensures { 131072 ≡ length result }
-{
-    [0; 131072]
-}
-
 // Whether a call has a word i.
 fn has_word(rt: &impl Env, i: usize) -> bool {
     let mut start = [0u8; 1];
-    match rt.arg(i, &mut start) {
-        Ok(_) => true,
-        Err(FillError::TooLong) => true,
-        Err(FillError::NotPresent) => false,
-    }
+    !matches!(rt.arg(i, &mut start), Err(FillError::NotPresent))
 }
 
 // How many words a call has, the program's own name among them.
@@ -56,22 +29,20 @@ pub fn word_count(rt: &impl Env) -> usize {
 pub fn word_at(rt: &impl Env, room: &mut [u8], i: usize) -> usize
     ensures { IsPrefixLen result room.new }
 {
-    match rt.arg(i, room) {
-        Ok(n) => n,
-        Err(_) => 0,
-    }
+    rt.arg(i, room).unwrap_or(0)
 }
 
-// What a call asks for with one word more. A word that is wrong is said.
-fn take(texts: &impl Print, options: Options, word: &[u8]) -> Options
-    ensures { result ≡ with_next options (asked_by word.now) }
+// What a call asks for with one word more. A word that is wrong is said, and the call is then not to be obeyed.
+fn take(texts: &impl Print, options: Options, word: &[u8]) -> Option<Options>
+    ensures { result ≡ result_ok (with_word options word.now) }
 {
-    let asked = asked_by(word);
-    let trouble = trouble_of(options, asked);
-    if !is_fine(trouble) {
-        says::refused(texts, word, trouble);
+    match with_word(options, word) {
+        Ok(more) => Some(more),
+        Err(trouble) => {
+            says::refused(texts, word, trouble);
+            None
+        }
     }
-    with_next(options, asked)
 }
 
 // With the word i of the call more, whatever its bytes are.
@@ -81,8 +52,8 @@ fn take_word(
     options: Options,
     room: &mut [u8],
     i: usize,
-) -> Options
-    ensures { (word : List ℕ) × (result ≡ with_next options (asked_by word)) }
+) -> Option<Options>
+    ensures { (word : List ℕ) × (result ≡ result_ok (with_word options word)) }
 {
     let n = word_at(rt, room, i);
     take(texts, options, &room[..n])
@@ -95,34 +66,27 @@ fn take_words(
     form: Options,
     from: usize,
     count: usize,
-) -> Options
-    ensures { Read form from count result }
+) -> Option<Options>
+    ensures { Read (Some form) from count result }
 {
-    let mut room = word_room();
+    let mut room = octets::room::<131072>();
     let mut options = form;
-    let mut i = from;
-    while i < count && options.good {
-        options = take_word(rt, texts, options, &mut room, i);
-        i += 1;
+    for i in from..count {
+        options = take_word(rt, texts, options, &mut room, i)?;
     }
-    options
+    Some(options)
 }
 
 // What a call of a command asks for. Where its words are wrong, that is said, and it is not to be obeyed.
-pub fn options_of(rt: &impl Env, texts: &impl Print, command: Command) -> Options
+pub fn options_of(rt: &impl Env, texts: &impl Print, command: Command) -> Option<Options>
     ensures { (count : ℕ) × ReadToEnd command count result }
 {
     let count = word_count(rt);
-    if is_missing(command, count) {
+    let Some(form) = start_of(command, count) else {
         says::missing(texts);
-    }
-    let options = take_words(
-        rt,
-        texts,
-        start_of(command, count),
-        behind_names(command, count),
-        count,
-    );
+        return None;
+    };
+    let options = take_words(rt, texts, form, behind_names(command, count), count)?;
     if lacks_first(options) {
         says::no_first(texts);
     }
@@ -142,21 +106,15 @@ fn why_unread(trouble: FillError) -> io::Error {
     }
 }
 
-// The word i as the name of a file.
-pub fn name_at(rt: &impl Env, texts: &impl Print, name: &mut [u8], i: usize) -> Named
-    ensures { IsPrefixLen result.count name.new }
+// The word i as the name of a file, at the start of the room: how many bytes it has. Where it could not be read, that is said.
+pub fn name_at(rt: &impl Env, texts: &impl Print, name: &mut [u8], i: usize) -> Option<usize>
+    ensures { IfSome result (λ n. IsPrefixLen n name.new) }
 {
     match rt.arg(i, name) {
-        Ok(n) => Named {
-            good: true,
-            count: n,
-        },
+        Ok(n) => Some(n),
         Err(trouble) => {
             says::failed(texts, b"a file's name", &why_unread(trouble));
-            Named {
-                good: false,
-                count: 0,
-            }
+            None
         }
     }
 }

@@ -2,20 +2,14 @@
 ghost use Rattle.std.specs.Prelude.{length, ◌≡◌};
 ghost use Rattle.l1.specs.Made.{MadeTold};
 
-use crate::machines::{hold, is_held};
-use crate::sessions::{empty_drum, no_marks};
-use calls::{Options, problem_of};
+use crate::machines::hold;
+use crate::sessions::empty_drum;
+use calls::{Options, first_of, problem_of};
+use octets::room;
 use rules::State;
 use shows::send;
 use std::io::Print;
 use std::rt::Files;
-
-// Room for the longest deck that can be made.
-fn made_room() -> [u8; 13196]
-    ensures { 13196 ≡ length result }
-{
-    [0; 13196]
-}
 
 // Bytes that are what a call of make tells: the deck of these cells and marks with the numbers that the words of the call and the machine's
 // state give, or the line of a call that is refused.
@@ -42,9 +36,9 @@ fn make_of(
     state: State,
     options: Options,
 ) -> bool {
-    let mut out = made_room();
+    let mut out = room::<13196>();
     let problem = problem_of(options, state.problem);
-    let made = making::make(drum, marks, &mut out, options.order, problem);
+    let made = making::make(drum, marks, &mut out, first_of(options), problem);
     let n = says::write_making(&mut out, made);
     send_made(rt, texts, &out[..n], drum, marks, state, options)
 }
@@ -52,11 +46,8 @@ fn make_of(
 // The deck of the machine file at path.
 pub fn make(rt: &(impl Files + Print), texts: &impl Print, path: &[u8], options: Options) {
     let mut drum = empty_drum();
-    let mut marks = no_marks();
-    let held = hold(rt, texts, &mut drum, &mut marks, path);
-    if !is_held(rt, texts, held) {
-        return;
+    let mut marks = room::<1000>();
+    if let Some(state) = hold(rt, texts, &mut drum, &mut marks, path) {
+        make_of(rt, texts, &drum, &marks, state, options);
     }
-    let state = held.state;
-    make_of(rt, texts, &drum, &marks, state, options);
 }

@@ -1,86 +1,40 @@
 // Machine files: made new, read onto a drum, and replaced. Load and run on them.
-ghost use Rattle.std.specs.Prelude.{◌≡◌, true, List, ℕ, length};
-ghost use Rattle.says.specs.Counts.{IsPrefixLen};
-ghost use Rattle.rules.specs.Words.{both};
+ghost use Rattle.std.specs.Prelude.{◌≡◌, true, List, ℕ};
 ghost use Rattle.file.specs.Files.{file_of};
 ghost use Rattle.file.specs.Reads.{FileRead};
 ghost use Rattle.says.specs.Told.{may_close};
 ghost use Rattle.l1.specs.New.{new_file};
 
-use crate::call_words::{name_at, name_room, word_count};
-use crate::sessions::{Gone, cards_room, deck_room, empty_drum, load_as, no_marks, run_as};
+use crate::call_words::{name_at, word_count};
+use crate::sessions::{Gone, empty_drum, load_as, run_as};
 use crate::telling::{tell, tell_bar, tell_refused};
 use calls::Options;
-use disk::{Filled, read_whole};
-use rules::{Bar, Ending, Loading, State};
+use disk::read_whole;
+use octets::room;
+use rules::{Bar, State};
 use std::env::Env;
 use std::io::Print;
 use std::random::RandomSource;
 use std::rt::Files;
 
-// Whether a machine file could be read, whether it is one, and the state in it.
-#[derive(Clone, Copy)]
-pub struct Held {
-    pub read: bool,
-    pub good: bool,
-    pub state: State,
-}
-
-// Room for a machine file and one byte more, by which a longer one is noticed.
-fn file_room() -> [u8; 9073]
-    ensures { 9073 ≡ length result }
-{
-    [0; 9073]
-}
-
-// Room for a machine file.
-fn file_bytes() -> [u8; 9072]
-    ensures { 9072 ≡ length result }
-{
-    [0; 9072]
-}
-
-// Room for a text of cells and one byte more.
-fn text_room() -> [u8; 262145]
-    ensures { 262145 ≡ length result }
-{
-    [0; 262145]
-}
-
-// The machine file at path, onto a drum and marks: what stands in some bytes, whatever the system read.
+// The machine file at path, onto a drum and marks, and its state: what stands in some bytes, whatever the system read. Where it could be
+// read and is none, that is told. It is read into room for one byte more, by which a longer file is noticed.
 pub fn hold(
-    rt: &impl Files,
+    rt: &(impl Files + Print),
     texts: &impl Print,
     drum: &mut [u64],
     marks: &mut [u8],
     path: &[u8],
-) -> Held
-    ensures { (bytes : List ℕ) × FileRead drum.old marks.old bytes (record { good = result.good; state = result.state }) drum.new marks.new }
+) -> Option<State>
+    ensures { (bytes : List ℕ) × FileRead drum.old marks.old bytes result drum.new marks.new }
 {
-    let mut room = file_room();
-    let x = read_whole(rt, texts, &mut room, path);
-    let n = x.count;
+    let mut room = room::<9073>();
+    let n = read_whole(rt, texts, &mut room, path)?;
     let found = file::read_file(drum, marks, &room[..n]);
-    let state = found.state;
-    Held {
-        read: x.good,
-        good: found.good,
-        state,
-    }
-}
-
-// Whether a machine file may be used. Where it could be read and is none, that is told.
-pub fn is_held(rt: &impl Print, texts: &impl Print, held: Held) -> bool
-    ensures { result ≡ both held.read held.good }
-{
-    if !held.read {
-        return false;
-    }
-    if !held.good {
+    if found.is_none() {
         tell_bar(rt, texts, Bar::BadDrum);
-        return false;
     }
-    true
+    found
 }
 
 // The file at path is replaced by bytes that are the machine file of these cells, marks and state.
@@ -107,7 +61,7 @@ fn keep(
     marks: &[u8],
     state: State,
 ) -> bool {
-    let mut bytes = file_bytes();
+    let mut bytes = room::<9072>();
     if file::write_file(&mut bytes, drum, marks, state) {
         if replace_file(rt, texts, path, &bytes, drum, marks, state) {
             return true;
@@ -126,20 +80,16 @@ fn load_on(
     options: Options,
 ) {
     let mut drum = empty_drum();
-    let mut marks = no_marks();
-    let held = hold(rt, texts, &mut drum, &mut marks, path);
-    if !is_held(rt, texts, held) {
+    let mut marks = room::<1000>();
+    let Some(before) = hold(rt, texts, &mut drum, &mut marks, path) else {
         return;
-    }
-    let before = held.state;
+    };
     let x = load_as(&mut drum, &mut marks, deck, before, options);
-    let loading = x.loading;
-    let after = x.state;
-    match loading {
-        Loading::Loaded => {
-            keep(rt, texts, path, &drum, &marks, after);
+    match x.loading {
+        Ok(()) => {
+            keep(rt, texts, path, &drum, &marks, x.state);
         }
-        Loading::NotLoaded(b) => tell_refused(rt, texts, b, deck),
+        Err(bar) => tell_refused(rt, texts, bar, deck),
     }
 }
 
@@ -153,20 +103,17 @@ fn run_on(
     options: Options,
 ) {
     let mut drum = empty_drum();
-    let mut marks = no_marks();
-    let held = hold(rt, texts, &mut drum, &mut marks, path);
-    if !is_held(rt, texts, held) {
+    let mut marks = room::<1000>();
+    let Some(before) = hold(rt, texts, &mut drum, &mut marks, path) else {
         return;
-    }
-    let before = held.state;
-    let mut out = cards_room();
-    let g = run_as(
+    };
+    let mut out = room::<65536>();
+    let Some(g) = run_as(
         rt, texts, &mut drum, &mut marks, &mut out, deck, before, options,
-    );
-    if !g.sent {
+    ) else {
         says::kept(texts, path);
         return;
-    }
+    };
     finish(rt, texts, path, &drum, &marks, deck, g);
 }
 
@@ -182,39 +129,40 @@ fn finish(
 )
     requires { may_close g.ending g.state g.count ≡ true }
 {
-    let ending = g.ending;
-    let state = g.state;
-    match ending {
-        Ending::NotRun(b) => tell_refused(rt, texts, b, deck),
-        Ending::Ran(_) => {
-            if keep(rt, texts, path, drum, marks, state) {
-                if !tell(rt, texts, ending, state, g.count) {
+    match g.ending {
+        Ok(_) => {
+            if keep(rt, texts, path, drum, marks, g.state) {
+                if !tell(rt, texts, g.ending, g.state, g.count) {
                     says::replaced(texts, path);
                 }
             }
         }
+        Err(bar) => tell_refused(rt, texts, bar, deck),
     }
 }
 
-// The deck that the word behind the machine file's name names. A machine file that is a link is not taken.
-fn deck_for(rt: &(impl Files + Env), texts: &impl Print, path: &[u8], room: &mut [u8]) -> Filled
-    ensures { IsPrefixLen result.count room.new }
+// Some work with the deck that the word behind the machine file's name names, where that can be read. A machine file that is a link is not
+// taken.
+fn with_deck<F: FnOnce(&[u8]) + Drop>(
+    rt: &(impl Files + Env),
+    texts: &impl Print,
+    path: &[u8],
+    work: F,
+)
+    requires { F.IsAlwaysCallable work }
 {
-    let none = Filled {
-        good: false,
-        count: 0,
-    };
     if disk::is_link(rt, path) {
         says::link(texts, path);
-        return none;
+        return;
     }
-    let mut name = name_room();
-    let named = name_at(rt, texts, &mut name, 3);
-    if !named.good {
-        return none;
+    let mut name = room::<4096>();
+    let Some(n) = name_at(rt, texts, &mut name, 3) else {
+        return;
+    };
+    let mut deck = room::<65537>();
+    if let Some(size) = read_whole(rt, texts, &mut deck, &name[..n]) {
+        work(&deck[..size]);
     }
-    let n = named.count;
-    read_whole(rt, texts, room, &name[..n])
 }
 
 // Load on the machine file at path, with the deck that the next word names.
@@ -224,12 +172,12 @@ pub fn load(
     path: &[u8],
     options: Options,
 ) {
-    let mut room = deck_room();
-    let deck = deck_for(rt, texts, path, &mut room);
-    if deck.good {
-        let n = deck.count;
-        load_on(rt, texts, path, &room[..n], options);
-    }
+    with_deck(
+        rt,
+        texts,
+        path,
+        |deck| load_on(rt, texts, path, deck, options),
+    );
 }
 
 // Run on the machine file at path, with the deck that the next word names.
@@ -239,12 +187,12 @@ pub fn run(
     path: &[u8],
     options: Options,
 ) {
-    let mut room = deck_room();
-    let deck = deck_for(rt, texts, path, &mut room);
-    if deck.good {
-        let n = deck.count;
-        run_on(rt, texts, path, &room[..n], options);
-    }
+    with_deck(
+        rt,
+        texts,
+        path,
+        |deck| run_on(rt, texts, path, deck, options),
+    );
 }
 
 // A file is made of bytes that are the new machine file of these cells.
@@ -256,8 +204,8 @@ fn make_file(rt: &impl Files, texts: &impl Print, path: &[u8], bytes: &[u8], dru
 
 // A new machine file of these cells, with no marks and a state of nine zeros. Where it is not made, that is said.
 fn make(rt: &impl Files, texts: &impl Print, path: &[u8], drum: &[u64]) -> bool {
-    let marks = no_marks();
-    let mut bytes = file_bytes();
+    let marks = room::<1000>();
+    let mut bytes = room::<9072>();
     if file::write_file(&mut bytes, drum, &marks, states::none()) {
         return make_file(rt, texts, path, &bytes, drum);
     }
@@ -266,12 +214,10 @@ fn make(rt: &impl Files, texts: &impl Print, path: &[u8], drum: &[u64]) -> bool 
 
 // The text of cells at path, onto a drum.
 fn fill_drum(rt: &impl Files, texts: &impl Print, drum: &mut [u64], path: &[u8]) -> bool {
-    let mut room = text_room();
-    let x = read_whole(rt, texts, &mut room, path);
-    if !x.good {
+    let mut room = room::<262145>();
+    let Some(n) = read_whole(rt, texts, &mut room, path) else {
         return false;
-    }
-    let n = x.count;
+    };
     if 262_144 < n {
         says::too_long(texts, path);
         return false;
@@ -285,12 +231,10 @@ fn fill_drum(rt: &impl Files, texts: &impl Print, drum: &mut [u64], path: &[u8])
 
 // A new machine file whose cells are those of the text that the next word names.
 fn new_filled(rt: &(impl Files + Env), texts: &impl Print, path: &[u8]) {
-    let mut name = name_room();
-    let named = name_at(rt, texts, &mut name, 3);
-    if !named.good {
+    let mut name = room::<4096>();
+    let Some(n) = name_at(rt, texts, &mut name, 3) else {
         return;
-    }
-    let n = named.count;
+    };
     let mut drum = empty_drum();
     if fill_drum(rt, texts, &mut drum, &name[..n]) {
         make(rt, texts, path, &drum);

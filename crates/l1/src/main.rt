@@ -9,8 +9,9 @@ mod machines;
 mod sessions;
 mod telling;
 
-use call_words::{name_at, name_room, options_of, word_at, word_count};
+use call_words::{name_at, options_of, word_at, word_count};
 use calls::{Command, Options};
+use octets::room;
 use std::env::Env;
 use std::io::Print;
 use std::random::RandomSource;
@@ -23,12 +24,10 @@ fn obey(
     command: Command,
     options: Options,
 ) {
-    let mut name = name_room();
-    let named = name_at(rt, texts, &mut name, 2);
-    if !named.good {
+    let mut name = room::<4096>();
+    let Some(n) = name_at(rt, texts, &mut name, 2) else {
         return;
-    }
-    let n = named.count;
+    };
     match command {
         Command::Session => sessions::session(rt, texts, &name[..n], options),
         Command::New => machines::new(rt, texts, &name[..n]),
@@ -38,25 +37,21 @@ fn obey(
         Command::List => shows::list(rt, texts, &name[..n]),
         Command::Cells => listings::cells(rt, texts, &name[..n]),
         Command::Make => decks::make(rt, texts, &name[..n], options),
-        Command::Unknown => says::help(texts),
     }
 }
 
 // A call of the program: `rt` has its words, the files and standard output, and `texts` writes to standard error.
 fn call(rt: &(impl Files + Env + Print + RandomSource), texts: &impl Print) {
-    let mut word = name_room();
+    let mut word = room::<4096>();
     let n = word_at(rt, &mut word, 1);
-    let command = calls::command_of(&word[..n]);
-    if !calls::is_known(command) {
+    let Some(command) = calls::command_of(&word[..n]) else {
         says::unknown(texts, &word[..n], word_count(rt));
         return;
+    };
+    match options_of(rt, texts, command) {
+        Some(options) => obey(rt, texts, command, options),
+        None => says::usage(texts, command),
     }
-    let options = options_of(rt, texts, command);
-    if !options.good {
-        says::usage(texts, command);
-        return;
-    }
-    obey(rt, texts, command, options);
 }
 
 fn main(rt: HostRuntime) {

@@ -1,23 +1,23 @@
 // Load and run as the words of a call ask for them, on a lent drum and marks; and a whole session on an empty drum.
-ghost use Rattle.std.specs.Prelude.{◌≡◌, true, ◌≤◌, length};
+ghost use Rattle.std.specs.Prelude.{◌≡◌, length, IfSome};
 ghost use Rattle.machine.specs.Lent.{call_of};
 ghost use Rattle.rules.specs.Loads.{loaded};
 ghost use Rattle.machine.specs.Lent.{LoadRight};
-ghost use Rattle.calls.specs.Words.{is_traced, switches_of};
+ghost use Rattle.calls.specs.Words.{is_traced, budget_of, switches_of};
 ghost use Rattle.l1.specs.Going.{may_refill, gone_on, WentOn};
 ghost use Rattle.l1.specs.New.{zeros};
 
 use crate::telling::{send_cards, tell, tell_refused};
-use calls::{Options, is_traced, switches_of};
+use calls::{Options, budget_of, is_traced, switches_of};
 use machine::Loaded;
-use rules::{Ending, Loading, Refusal, State, Switches};
+use octets::room;
+use rules::{Ending, Refusal, State, Switches};
 use std::io::Print;
 use std::rt::Files;
 
-// What a run came to, room after room, and whether all its cards were sent.
-#[derive(Clone, Copy)]
+// What a run came to, room after room, all its cards sent.
+#[derive(Clone, Copy, Debug, PartialEq, Eq)]
 pub struct Gone {
-    pub sent: bool,
     pub ending: Ending,
     pub count: u64,
     pub state: State,
@@ -28,10 +28,7 @@ pub struct Gone {
 fn may_refill(ending: Ending, count: u64) -> bool
     ensures { result ≡ may_refill ending count }
 {
-    if count == 0 {
-        return false;
-    }
-    stops::ending_number(ending) == stops::refusal_number(Refusal::NoRoom)
+    count != 0 && matches!(ending, Ok(Err(Refusal::NoRoom)))
 }
 
 // A run whose cards are sent as it goes on. Where the room is full the cards in it are sent, and the run goes on with the rest of its
@@ -46,38 +43,29 @@ fn go_on(
     state: State,
     budget: u64,
     switches: Switches,
-) -> Gone
-    ensures { result.sent ≡ true → WentOn (gone_on budget (call_of drum.old marks.old out.old deck.now state budget switches) 0)
-        drum.new marks.new result }
+) -> Option<Gone>
+    ensures { IfSome result (WentOn (gone_on budget (call_of drum.old marks.old out.old deck.now state budget switches) 0)
+        drum.new marks.new) }
 {
     let mut count: u64 = 0;
     let mut left = budget;
     let mut st = state;
     loop {
         let x = machine::run(drum, marks, out, deck, st, left, switches);
-        let ending = x.ending;
         let done = x.count;
-        let n = x.written;
-        let s = x.state;
         count += done;
-        if !send_cards(rt, texts, out, n, x) {
-            return Gone {
-                sent: false,
-                ending,
-                count,
-                state: s,
-            };
+        if !send_cards(rt, texts, out, x.written, x) {
+            return None;
         }
-        if !may_refill(ending, done) {
-            return Gone {
-                sent: true,
-                ending,
+        if !may_refill(x.ending, done) {
+            return Some(Gone {
+                ending: x.ending,
                 count,
-                state: s,
-            };
+                state: x.state,
+            });
         }
         left -= done;
-        st = s;
+        st = x.state;
     }
 }
 
@@ -91,9 +79,9 @@ pub fn run_as(
     deck: &[u8],
     state: State,
     options: Options,
-) -> Gone
-    ensures { result.sent ≡ true → WentOn (gone_on options.budget (call_of drum.old marks.old out.old deck.now state options.budget (switches_of options)) 0)
-        drum.new marks.new result }
+) -> Option<Gone>
+    ensures { IfSome result (WentOn (gone_on (budget_of options) (call_of drum.old marks.old out.old deck.now state (budget_of options) (switches_of options)) 0)
+        drum.new marks.new) }
 {
     go_on(
         rt,
@@ -103,7 +91,7 @@ pub fn run_as(
         out,
         deck,
         state,
-        options.budget,
+        budget_of(options),
         switches_of(options),
     )
 }
@@ -131,28 +119,6 @@ pub fn empty_drum() -> [u64; 1000]
     [0u64; 1000]
 }
 
-// 1,000 marks of 0.
-pub fn no_marks() -> [u8; 1000]
-    ensures zeros { result ≡ zeros }
-    ensures size { 1000 ≡ length result }
-{
-    [0u8; 1000]
-}
-
-// Room for the cards of a run, for which it is emptied whenever it is full.
-pub fn cards_room() -> [u8; 65536]
-    ensures { 65536 ≡ length result }
-{
-    [0; 65536]
-}
-
-// Room for a deck and one byte more, by which a longer one is noticed.
-pub fn deck_room() -> [u8; 65537]
-    ensures { 65537 ≡ length result }
-{
-    [0; 65537]
-}
-
 // A run behind its load: its cards, then the Z card.
 fn play_on(
     rt: &impl Print,
@@ -163,34 +129,27 @@ fn play_on(
     state: State,
     options: Options,
 ) {
-    let mut out = cards_room();
-    let g = run_as(rt, texts, drum, marks, &mut out, deck, state, options);
-    if g.sent {
-        let ending = g.ending;
-        let after = g.state;
-        tell(rt, texts, ending, after, g.count);
+    let mut out = room::<65536>();
+    if let Some(g) = run_as(rt, texts, drum, marks, &mut out, deck, state, options) {
+        tell(rt, texts, g.ending, g.state, g.count);
     }
 }
 
 // A deck is loaded on an empty drum and run.
 fn play(rt: &impl Print, texts: &impl Print, deck: &[u8], options: Options) {
     let mut drum = empty_drum();
-    let mut marks = no_marks();
+    let mut marks = room::<1000>();
     let x = load_as(&mut drum, &mut marks, deck, states::none(), options);
-    let loading = x.loading;
-    let state = x.state;
-    match loading {
-        Loading::NotLoaded(b) => tell_refused(rt, texts, b, deck),
-        Loading::Loaded => play_on(rt, texts, &mut drum, &mut marks, deck, state, options),
+    match x.loading {
+        Ok(()) => play_on(rt, texts, &mut drum, &mut marks, deck, x.state, options),
+        Err(bar) => tell_refused(rt, texts, bar, deck),
     }
 }
 
 // The deck at path is loaded on an empty drum and run.
 pub fn session(rt: &(impl Files + Print), texts: &impl Print, path: &[u8], options: Options) {
-    let mut room = deck_room();
-    let deck = disk::read_whole(rt, texts, &mut room, path);
-    if deck.good {
-        let n = deck.count;
+    let mut room = room::<65537>();
+    if let Some(n) = disk::read_whole(rt, texts, &mut room, path) {
         play(rt, texts, &room[..n], options);
     }
 }

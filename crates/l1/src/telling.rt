@@ -58,7 +58,7 @@ pub fn tell(rt: &impl Print, texts: &impl Print, ending: Ending, state: State, c
 
 // The line of a call that was refused at its entry.
 pub fn tell_bar(rt: &impl Print, texts: &impl Print, bar: Bar) {
-    tell(rt, texts, Ending::NotRun(bar), states::none(), 0);
+    tell(rt, texts, Err(bar), states::none(), 0);
 }
 
 // A line that says what is wrong with a deck, on standard error.
@@ -71,9 +71,7 @@ fn say_fault(texts: &impl Print, line: &[u8], deck: &[u8], fault: DeckFault)
 // What is wrong with a deck, as a sentence.
 fn explain(texts: &impl Print, deck: &[u8], fault: DeckFault) {
     let line = faults::of_deck(deck, fault);
-    let text = line.bytes;
-    let n = line.size;
-    say_fault(texts, &text[..n], deck, fault);
+    say_fault(texts, line.text(), deck, fault);
 }
 
 // The line of a call that was refused at its entry. Where that is for its deck, the sentence that says why comes before it.
@@ -89,24 +87,17 @@ pub fn tell_refused(rt: &impl Print, texts: &impl Print, bar: Bar, deck: &[u8]) 
 // What the check of a deck found.
 fn tell_deck(rt: &impl Print, texts: &impl Print, found: Deck, deck: &[u8]) {
     match found {
-        Deck::Good {
-            behind: _,
-            order: _,
-            problem: _,
-        } => {
+        Ok(_) => {
             send(rt, texts, b"good");
         }
-        Deck::Faulty(f) => tell_refused(rt, texts, Bar::BadDeck(f), deck),
+        Err(f) => tell_refused(rt, texts, Bar::BadDeck(f), deck),
     }
 }
 
 // The check of a deck alone.
 pub fn check_deck(rt: &(impl Files + Print), texts: &impl Print, path: &[u8]) {
-    let mut room = crate::sessions::deck_room();
-    let deck = disk::read_whole(rt, texts, &mut room, path);
-    if !deck.good {
-        return;
+    let mut room = octets::room::<65537>();
+    if let Some(n) = disk::read_whole(rt, texts, &mut room, path) {
+        tell_deck(rt, texts, card::check_deck(&room[..n]), &room[..n]);
     }
-    let n = deck.count;
-    tell_deck(rt, texts, card::check_deck(&room[..n]), &room[..n]);
 }

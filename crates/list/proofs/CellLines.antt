@@ -1,4 +1,5 @@
 -- Laws of the lines of marked cells: how long they are, and that those of the first cells are no longer than those of all. Assumes nothing.
+use Rattle.std.proofs.Common.{None, Some}
 use Prim.Native.Nat.{ℕ, zero, suc, ◌+◌, ◌-◌, ◌*◌, ◌≤◌, ◌<◌}
 use mathlib.Core.Path.{◌≡◌, refl, ap, ◌∙◌}
 use mathlib.Core.Bool.{Bool, true, false}
@@ -10,8 +11,7 @@ use lib.Dec.{leb}
 use lib.ListN.{length, length-append}
 use Rattle.rules.specs.Words.{pick, both, is_word}
 use Rattle.rules.specs.Drum.{cell_at, shown}
-use Rattle.rules.specs.declared.Cell.{Cell}
-use Rattle.rules.specs.declared.Cell.TheVariants.{Foreign, Owned}
+use Rattle.rules.specs.Answers.{Cell}
 use Rattle.list.specs.Listing.{cell_line, cell_shown}
 use Rattle.list.specs.Marked.{line_of, lines_upto}
 use Rattle.list.proofs.Lengths.{length_cell}
@@ -40,8 +40,8 @@ shown_some a w n = by_test (both (leb a 999) (is_word w)) n
     by_test false k = absurd (k refl)
 
 pub line_some : (a : ℕ) (x : Cell) → (length (line_of a x) ≡ 0 → ⊥) → line_of a x ≡ cell_line a (shown x)
-line_some a Foreign n = absurd (n refl)
-line_some a (Owned w) n = shown_some a w n
+line_some a None n = absurd (n refl)
+line_some a (Some w) n = shown_some a w n
 
 pub line_none : (l : List ℕ) → length l ≡ 0 → l ≡ []
 line_none [] e = refl
@@ -49,8 +49,8 @@ line_none (x ∷ l) e = absurd (let z : ⊥ = omega (arith, e) in z)
 
 line_short : (a : ℕ) (x : Cell) → length (line_of a x) ≤ 44
 unfolding cell_shown
-line_short a Foreign = omega arith
-line_short a (Owned w) = by_test (both (leb a 999) (is_word w))
+line_short a None = omega arith
+line_short a (Some w) = by_test (both (leb a 999) (is_word w))
   where
     by_test : (t : Bool) → length (pick t (cell_line a w) []) ≤ 44
     by_test true = omega (arith, length_cell a w)

@@ -5,4 +5,3 @@ pub mod CellLines
 pub mod Answers
 pub mod Examples
 pub mod OneAnswer
-pub mod LastLines

@@ -1,15 +1,14 @@
 -- The marked cells of a drum as lines. They are made from the view, in which an unmarked cell has no word, so no line can show one.
 -- Assumes nothing.
-use Rattle.std.specs.Prelude.{ℕ, zero, suc, List, [], ◌++◌}
+use Rattle.std.specs.Prelude.{ℕ, zero, suc, List, [], ◌++◌, Some, None}
 use Rattle.rules.specs.Drum.{cell_at}
-use Rattle.rules.specs.declared.Cell.{Cell}
-use Rattle.rules.specs.declared.Cell.TheVariants.{Foreign, Owned}
+use Rattle.rules.specs.Answers.{Cell}
 use Rattle.list.specs.Listing.{cell_shown}
 
 -- the line of the cell at an address: none where it is unmarked
 abbrev pub line_of : ℕ → Cell → List ℕ
-line_of a Foreign = []
-line_of a (Owned w) = cell_shown a w
+line_of a None = []
+line_of a (Some w) = cell_shown a w
 
 -- the lines of the first n cells
 unfoldable pub lines_upto : List Cell → ℕ → List ℕ

@@ -28,15 +28,14 @@ fn put_cells(out: &mut [u8], rest: &[u8], location: usize, n: usize)
     requires cells_in { location + n ≤ 1000 }
     ensures { out.new ≡ splice 32 (cell_lines rest.now location n) out.old }
 {
-    let mut i: usize = 0;
-    while i < n {
+    for i in 0..n {
         let w = card::word_of(rest, i);
         put_cell(out, 32 + 44 * i, location + i, w);
-        i += 1;
     }
 }
 
-// The lines of a data card.
+// The lines of a data card. Each writer tests the room for itself and answers 0 where nothing is written, as `WroteLine` says: a put handed
+// to one function as a closure would need its clause over the lent output said once more, which is no plainer.
 pub(crate) fn write_data(out: &mut [u8], rest: &[u8], location: usize, n: usize) -> usize
     requires card_in { 11 + 11 * n ≤ length rest.now }
     requires cells_in { location + n ≤ 1000 }

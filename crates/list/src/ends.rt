@@ -1,6 +1,5 @@
 // How a listing goes on from card to card, and how it ends.
 ghost use Rattle.std.specs.Prelude.{◌≡◌};
-ghost use Rattle.faults.specs.Lines.{Says};
 ghost use Rattle.list.specs.Listing.{none_seen, with_kind, is_second, wrong_in, wrong_met, end_line, last_line};
 
 use crate::kinds::stop_bad;
@@ -9,7 +8,7 @@ use octets::byte_at;
 use rules::{Card, Fault};
 
 // What has been listed of a file: how many cards, whether one is a first-order card, and whether one stands in no deck.
-#[derive(Clone, Copy)]
+#[derive(Clone, Copy, Debug, PartialEq, Eq)]
 pub struct Seen {
     pub cards: usize,
     pub first: bool,
@@ -36,18 +35,14 @@ pub fn with_kind(seen: Seen, kind: u8) -> Seen
         b'T' => Seen {
             cards,
             first: true,
-            other: seen.other,
+            ..seen
         },
         b'X' | b'Z' => Seen {
             cards,
-            first: seen.first,
             other: true,
+            ..seen
         },
-        _ => Seen {
-            cards,
-            first: seen.first,
-            other: seen.other,
-        },
+        _ => Seen { cards, ..seen },
     }
 }
 
@@ -55,10 +50,7 @@ pub fn with_kind(seen: Seen, kind: u8) -> Seen
 pub fn is_second(seen: Seen, rest: &[u8]) -> bool
     ensures { result ≡ is_second seen rest.now }
 {
-    if !seen.first {
-        return false;
-    }
-    byte_at(rest, 0) == b'T'
+    seen.first && byte_at(rest, 0) == b'T'
 }
 
 // What is wrong with the bytes where no card begins.
@@ -93,7 +85,7 @@ fn wrong_met(seen: Seen, rest: &[u8]) -> Card
 
 // The line for the end of a file: none where a card of it stands in no deck, or where it may be a good deck.
 fn end_line(seen: Seen, place: usize) -> Line
-    ensures { Says result (end_line seen place) }
+    ensures { result ≡ end_line seen place }
 {
     if seen.other {
         return faults::empty();
@@ -109,21 +101,12 @@ fn end_line(seen: Seen, place: usize) -> Line
 
 // The last line of a listing that ends at a place, where the rest of the file is these bytes.
 pub fn last_line(seen: Seen, place: usize, rest: &[u8]) -> Line
-    ensures { Says result (last_line seen place rest.now) }
+    ensures { result ≡ last_line seen place rest.now }
 {
     match wrong_met(seen, rest) {
         Card::Bad(fault, o) => faults::of_card(sum(seen.cards, 1), place, fault, o, rest),
-        Card::Data {
-            number: _,
-            location: _,
-            words: _,
-            problem: _,
-            size: _,
-        } => end_line(seen, place),
-        Card::First {
-            order: _,
-            problem: _,
-        } => end_line(seen, place),
+        Card::Data { .. } => end_line(seen, place),
+        Card::First { .. } => end_line(seen, place),
         Card::End => end_line(seen, place),
     }
 }

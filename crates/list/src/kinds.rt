@@ -7,23 +7,14 @@ ghost use Rattle.list.specs.Listing.{is_trace, stop_bad, is_stop};
 pub(crate) fn is_trace(rest: &[u8]) -> bool
     ensures { result ≡ is_trace rest.now }
 {
-    if rest.len() < 77 {
-        return false;
-    }
-    if rest[0] != b'X' {
-        return false;
-    }
-    card::first_bad(rest, 6, 77) == 77
+    rest.len() >= 77 && rest[0] == b'X' && card::first_bad(rest, 6, 77) == 77
 }
 
 // Whether a byte is a sign.
 fn is_sign(b: u8) -> bool
     ensures { result ≡ is_sign b }
 {
-    if b == b'+' {
-        return true;
-    }
-    b == b'-'
+    matches!(b, b'+' | b'-')
 }
 
 // The first byte of a stop card that is not the one due, and its size where there is none.
@@ -42,15 +33,9 @@ pub(crate) fn stop_bad(rest: &[u8]) -> usize
     13 + card::first_bad(word, 0, 11)
 }
 
-// Whether a whole stop card is there.
+// Whether a whole stop card is there. One function with `is_trace` would take size, letter and test, and be no plainer.
 pub(crate) fn is_stop(rest: &[u8]) -> bool
     ensures { result ≡ is_stop rest.now }
 {
-    if rest.len() < 24 {
-        return false;
-    }
-    if rest[0] != b'Z' {
-        return false;
-    }
-    stop_bad(rest) == 24
+    rest.len() >= 24 && rest[0] == b'Z' && stop_bad(rest) == 24
 }

@@ -8,8 +8,8 @@ use crate::stops::write_stop;
 use crate::traces::write_trace;
 use rules::Card;
 
-// What was written of a card: how many bytes of lines, and how many bytes the card takes.
-#[derive(Clone, Copy)]
+// What was written of a card: how many bytes of lines, and how many bytes the card takes. No Option: `size_of` says 0 where there is no card.
+#[derive(Clone, Copy, Debug, PartialEq, Eq)]
 pub struct Lines {
     pub written: usize,
     pub taken: usize,
@@ -40,11 +40,10 @@ pub fn write_lines(out: &mut [u8], rest: &[u8]) -> Lines
 {
     match card::read_card(rest) {
         Card::Data {
-            number: _,
             location,
             words,
-            problem: _,
             size,
+            ..
         } => {
             let written = write_data(out, rest, location, words);
             Lines {
@@ -52,14 +51,11 @@ pub fn write_lines(out: &mut [u8], rest: &[u8]) -> Lines
                 taken: size,
             }
         }
-        Card::First {
-            order: _,
-            problem: _,
-        } => {
+        Card::First { .. } => {
             let written = write_first(out, rest);
             Lines { written, taken: 7 }
         }
-        Card::Bad(_, _) => write_other(out, rest),
+        Card::Bad(..) => write_other(out, rest),
         Card::End => Lines {
             written: 0,
             taken: 0,

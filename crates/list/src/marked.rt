@@ -12,7 +12,7 @@ use rules::Cell;
 fn size_of(address: usize, cell: Cell) -> usize
     ensures { result ≡ length (line_of address cell) }
 {
-    let Cell::Owned(w) = cell else {
+    let Some(w) = cell else {
         return 0;
     };
     if 999 < address {
@@ -43,10 +43,8 @@ fn size_of_all(drum: &[u64], marks: &[u8]) -> usize
     ensures { result ≡ length (marked_lines (view drum.now marks.now)) }
 {
     let mut n: usize = 0;
-    let mut a: usize = 0;
-    while a < 1000 {
+    for a in 0..1000 {
         n += size_of(a, drum::cell(drum, marks, a));
-        a += 1;
     }
     n
 }
@@ -57,10 +55,8 @@ fn put_all(out: &mut [u8], drum: &[u64], marks: &[u8])
     ensures { out.new ≡ splice 0 (marked_lines (view drum.now marks.now)) out.old }
 {
     let mut at: usize = 0;
-    let mut address: usize = 0;
-    while address < 1000 {
+    for address in 0..1000 {
         at += put_marked(out, at, drum, marks, address);
-        address += 1;
     }
 }
 

@@ -1,4 +1,5 @@
 // What lines are made of: a text with bytes behind it that stand elsewhere, at a place of the output. All else is left as it is.
+// No write!: each part stands at a fixed place of a lent output, where a formatter that appends would be no plainer.
 ghost use Rattle.std.specs.Prelude.{◌≡◌, ◌++◌, ◌+◌, ◌≤◌, length, take, drop};
 ghost use Rattle.octets.specs.Put.{splice};
 

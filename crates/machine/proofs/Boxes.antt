@@ -1,30 +1,15 @@
--- What the ten numbers say of the machine that they show, and that an order whose sums fit is done as a word. Assumes nothing.
+-- An order whose sums fit is done as a word. Assumes nothing.
 use Prim.Native.Nat.{ℕ, ◌+◌, ◌*◌, ◌/◌, ◌%◌, ◌≤◌}
-use mathlib.Core.Path.{◌≡◌, refl, ap, ◌∙◌}
-use mathlib.Core.List.{List, [], ◌∷◌}
+use mathlib.Core.Path.{◌≡◌}
 use mathlib.Core.Bool.{Bool, true, false}
 use native.Mathlib.Omega.{arith}
 use lib.Dec.{leb}
-use lib.ListN.{length, get_or}
 use borrow.Author.Tests.{leb-true}
 use Rattle.rules.specs.Words.{pick, both, a_in, b_in, c_in}
-use Rattle.rules.specs.Machine.{Machine, count_a, count_b, count_c, counting}
+use Rattle.rules.specs.Machine.{count_a, count_b, count_c}
 use Rattle.rules.specs.Running.{is_minus, sums_fit, order_fits, box_word, as_done}
 use Rattle.rules.specs.declared.State.{State}
 use Rattle.rules.proofs.Tests.{both_first, both_second}
-use Rattle.machine.specs.Lent.{Shows}
-use Rattle.rules.specs.States.{state_in}
-
-three_counts : (l : List ℕ) → length l ≡ 3 → get_or l 0 0 ∷ get_or l 1 0 ∷ get_or l 2 0 ∷ [] ≡ l
-three_counts [] e = let z : ⊥ = omega arith in absurd z
-three_counts (a ∷ []) e = let z : ⊥ = omega arith in absurd z
-three_counts (a ∷ b ∷ []) e = let z : ⊥ = omega arith in absurd z
-three_counts (a ∷ b ∷ c ∷ []) e = refl
-three_counts (a ∷ b ∷ c ∷ d ∷ l) e = let z : ⊥ = omega arith in absurd z
-
--- they are its state
-pub state_is : {drum₀ out₀ drum marks out row : List ℕ} {m : Machine} → Shows drum₀ out₀ drum marks out row m → state_in row ≡ m.state
-state_is {m = m} h = ap state_in h.row_is ∙ ap (counting m.state) (three_counts m.state.counts h.steady.three)
 
 joined : {w : ℕ} (s x y z p q r : ℕ) → s ≤ 1 → w ≡ s * 10000000000 + x → x + r ≤ y * 1000 + 999 → y + q ≤ z * 1000 + 999 → z + p ≤ 9999
     → w + (p * 1000000 + q * 1000 + r * 1) ≤ 19999999999

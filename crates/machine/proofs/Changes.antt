@@ -1,5 +1,6 @@
 -- One address of a word taken out, C shifted to where it stands, and the sum by its digits: none goes past the word, and each is what the rules
 -- make of it. Assumes nothing.
+use Rattle.std.proofs.Common.{Err, Ok}
 use Prim.Native.Nat.{ℕ, ◌+◌, ◌-◌, ◌*◌, ◌≤◌, ◌<◌}
 use mathlib.Core.Path.{◌≡◌, ap}
 use native.Mathlib.Omega.{arith}
@@ -8,7 +9,6 @@ use Rattle.rules.specs.Words.{digits_in, address_in, worth_of, with_digits}
 use Rattle.rules.specs.Orders.{shifted, raised_by, lowered_by}
 use Rattle.rules.specs.declared.Address.{Address}
 use Rattle.rules.specs.declared.Address.TheVariants.{OfA, OfB, OfC}
-use Rattle.rules.specs.declared.Reckoned.TheVariants.{Result, Refused}
 use Rattle.rules.specs.declared.Refusal.TheVariants.{BadAddress}
 
 -- ---- by the address
@@ -37,14 +37,14 @@ raised_word w n = omega arith
 lowered_word : (w n : ℕ) → n ≤ digits_in w → w - n ≡ with_digits w (digits_in w - n)
 lowered_word w n l = omega arith
 
-pub raised_past : (w n : ℕ) → 9999999999 < digits_in w + n → Refused BadAddress ≡ raised_by w n
+pub raised_past : (w n : ℕ) → 9999999999 < digits_in w + n → Err BadAddress ≡ raised_by w n
 raised_past w n l = rw (lt-leb (digits_in w + n) 9999999999 l)
 
-pub raised_held : (w n : ℕ) → digits_in w + n ≤ 9999999999 → Result (w + n) ≡ raised_by w n
-raised_held w n l = rw (le-leb (digits_in w + n) 9999999999 l) (ap Result (raised_word w n))
+pub raised_held : (w n : ℕ) → digits_in w + n ≤ 9999999999 → Ok (w + n) ≡ raised_by w n
+raised_held w n l = rw (le-leb (digits_in w + n) 9999999999 l) (ap Ok (raised_word w n))
 
-pub lowered_past : (w n : ℕ) → digits_in w < n → Refused BadAddress ≡ lowered_by w n
+pub lowered_past : (w n : ℕ) → digits_in w < n → Err BadAddress ≡ lowered_by w n
 lowered_past w n l = rw (lt-leb n (digits_in w) l)
 
-pub lowered_held : (w n : ℕ) → n ≤ digits_in w → Result (w - n) ≡ lowered_by w n
-lowered_held w n l = rw (le-leb n (digits_in w) l) (ap Result (lowered_word w n l))
+pub lowered_held : (w n : ℕ) → n ≤ digits_in w → Ok (w - n) ≡ lowered_by w n
+lowered_held w n l = rw (le-leb n (digits_in w) l) (ap Ok (lowered_word w n l))

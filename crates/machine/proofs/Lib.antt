@@ -1,3 +1,4 @@
+mod Refusals
 mod Shown
 mod Stores
 mod Moves

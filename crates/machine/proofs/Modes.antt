@@ -1,4 +1,5 @@
 -- No order changes the mode: so the table of codes is laid out for it once a run. Assumes nothing.
+use Rattle.std.proofs.Common.{Err, None, Ok, Some}
 use Prim.Native.Nat.{ℕ, zero, suc, ◌+◌, ◌-◌}
 use mathlib.Core.Path.{◌≡◌, refl}
 use mathlib.Core.Bool.{Bool, true, false}
@@ -11,23 +12,14 @@ use Rattle.rules.specs.Codes.{codes, lookup, checked}
 use Rattle.rules.specs.Machine.{Machine, Inputs, Answer, counting, clear_box, is_traced, is_tracing, with_state, tracing_set, going_to, onward, done, undone}
 use Rattle.rules.specs.Orders.{reckoned_by, stops_by_loss, reckoned, cond_stopped, gone, largest, raised, changed_word, changed, five, card_punched, cards_punched, punch_size, punched, read, retraced, performed}
 use Rattle.rules.specs.Running.{order_fits, as_done, allowed, obeyed_as, code_done, obeyed, trace_size, trace_sent, traced, fetched, step}
-use Rattle.rules.specs.declared.Cell.{Cell}
-use Rattle.rules.specs.declared.Cell.TheVariants.{Foreign, Owned}
-use Rattle.rules.specs.declared.Reckoned.{Reckoned}
-use Rattle.rules.specs.declared.Reckoned.TheVariants.{Result, Refused}
+use Rattle.rules.specs.Answers.{Built, Cell, Checked, Judged, Reckoned}
 use Rattle.rules.specs.declared.Refusal.TheVariants.{BadAddress, NoRoom}
-use Rattle.rules.specs.declared.Judged.{Judged}
-use Rattle.rules.specs.declared.Judged.TheVariants.{Fits, Fails}
 use Rattle.rules.specs.declared.Going.{Going}
 use Rattle.rules.specs.declared.Going.TheVariants.{UncStop, CondStop, TrSgn, TrExp, Tr, TrSubr, Noop}
 use Rattle.rules.specs.declared.Tracing.{Tracing}
 use Rattle.rules.specs.declared.Tracing.TheVariants.{StartTr, StopTr, StTrEras}
 use Rattle.rules.specs.declared.Operation.{Operation}
 use Rattle.rules.specs.declared.Operation.TheVariants.{Reckon, Move, Go, Loop, Change, Read, Pch, Trace, MoveBlock, Compare}
-use Rattle.rules.specs.declared.Checked.{Checked}
-use Rattle.rules.specs.declared.Checked.TheVariants.{Passes, Refuses}
-use Rattle.rules.specs.declared.Built.{Built}
-use Rattle.rules.specs.declared.Built.TheVariants.{As, No}
 
 -- the mode after it is the one before
 abbrev Same : Machine → Machine → Type 0
@@ -40,12 +32,12 @@ either_same m false x y p q = q
 -- ---- orders
 
 reckoned_same : (t : Bool) (m : Machine) (c : ℕ) (r : Reckoned) → Same m (reckoned t m c r).machine
-reckoned_same t m c (Result w) = refl
-reckoned_same t m c (Refused f) = refl
+reckoned_same t m c (Ok w) = refl
+reckoned_same t m c (Err f) = refl
 
 changed_same : (m : Machine) (b : ℕ) (r : Reckoned) → Same m (changed m b r).machine
-changed_same m b (Result w) = refl
-changed_same m b (Refused f) = refl
+changed_same m b (Ok w) = refl
+changed_same m b (Err f) = refl
 
 cond_same : (t : Bool) (m : Machine) (b c : ℕ) → Same m (cond_stopped t m b c).machine
 cond_same true m b c = refl
@@ -71,8 +63,8 @@ retraced_same m StopTr = turned_same m 0 (is_traced m.state)
 retraced_same m StTrEras = turned_same m 1 (is_traced m.state)
 
 read_same : (i : Inputs) (m : Machine) (j : Judged) → Same m (read i m j).machine
-read_same i m (Fits end) = refl
-read_same i m (Fails r) = refl
+read_same i m (Ok end) = refl
+read_same i m (Err r) = refl
 
 cards_same : (j : ℕ) (m : Machine) (b n : ℕ) → Same m (cards_punched j m b n)
 unfolding cards_punched
@@ -107,12 +99,12 @@ performed_same i m (Compare x) a b c = refl
 -- ---- a whole order
 
 allowed_same : (i : Inputs) (m : Machine) (o : Operation) (a b c : ℕ) (k : Checked) → Same m (allowed i m o a b c k).machine
-allowed_same i m o a b c Passes = performed_same i m o a b c
-allowed_same i m o a b c (Refuses r) = refl
+allowed_same i m o a b c (Ok _) = performed_same i m o a b c
+allowed_same i m o a b c (Err r) = refl
 
 as_same : (i : Inputs) (m : Machine) (a b c : ℕ) (k : Built) → Same m (obeyed_as i m a b c k).machine
-as_same i m a b c No = refl
-as_same i m a b c (As o k) = allowed_same i m o a b c (checked k m.cells a b c)
+as_same i m a b c None = refl
+as_same i m a b c (Some (o, k)) = allowed_same i m o a b c (checked k m.cells a b c)
 
 obeyed_same : (i : Inputs) (m : Machine) (w : ℕ) → Same m (obeyed i m w).machine
 unfolding obeyed
@@ -128,8 +120,8 @@ traced_same i m w x =
 
 fetched_same : (i : Inputs) (m : Machine) (x : Cell) → Same m (fetched i m x).machine
 unfolding fetched
-fetched_same i m Foreign = refl
-fetched_same i m (Owned w) =
+fetched_same i m None = refl
+fetched_same i m (Some w) =
     either_same m (order_fits m.state w) (traced i m w (as_done m.state w)) (undone BadAddress m) (traced_same i m w (as_done m.state w)) refl
 
 pub mode_kept : (i : Inputs) (m : Machine) → (step i m).machine.state.mode ≡ m.state.mode

@@ -1,24 +1,25 @@
 -- The words of a block moved one by one, from the first on or from the last on: what is moved so far is a block too, and the next word stands
 -- outside the cells that have been stored in. Assumes nothing.
+use Rattle.std.proofs.Common.{Ok}
 use Prim.Native.Nat.{ℕ, ◌+◌, ◌-◌, ◌≤◌, ◌<◌}
 use mathlib.Core.Path.{◌≡◌, refl, sym, ap, subst, ◌∙◌}
 use mathlib.Core.List.{List}
 use mathlib.Core.Bool.{Bool, true, false}
 use native.Mathlib.Omega.{arith}
 use lib.Dec.{leb}
-use lib.ListN.{get_or, set}
 use borrow.Author.Tests.{leb-true, leb-false}
 use Rattle.rules.specs.Words.{pick}
 use Rattle.rules.specs.Drum.{view, word_at, store, shown}
 use Rattle.rules.specs.Machine.{Machine, done}
 use Rattle.rules.specs.Orders.{words_from, stored_from, cells_moved, block_moved}
-use Rattle.rules.specs.declared.Cell.{Cell}
-use Rattle.rules.specs.declared.Outcome.TheVariants.{GoesOn}
+use Rattle.rules.specs.Answers.{Cell}
+use Rattle.rules.specs.declared.Done.TheVariants.{GoesOn}
 use Rattle.rules.proofs.BlockMoves.{moved_first, moved_last, moved_elsewhere}
 use Rattle.drum.specs.Held.{Holds, Keeps, Stored}
 use Rattle.drum.proofs.Cells.{kept}
-use Rattle.machine.specs.Lent.{Shows, Did}
+use Rattle.machine.specs.Lent.{Went, Shows, Did}
 use Rattle.machine.proofs.Shown.{word_is, went_on}
+use Rattle.machine.specs.declared.desk.Desk.{Desk}
 
 -- the word that is moved in turn i, and the first of those that are moved before that turn
 abbrev pub in_turn : ℕ → ℕ → ℕ → ℕ → ℕ
@@ -97,8 +98,8 @@ all_moved {drum = drum} {marks = marks} {b = b} {c = c} {n = n} {i = i} h e drum
     whole false = ap (λ (j : ℕ). cells_moved v n j (c + (n - n))) (omega arith) ∙ ap (cells_moved v n b) (omega arith)
 
 -- the whole order
-pub moved_on : {drum₀ out₀ drum marks out row row' d k : List ℕ} {m : Machine} (h : Shows drum₀ out₀ drum marks out row m) (n b c : ℕ)
-    → Keeps drum marks d k (λ v. cells_moved v n b c) → row' ≡ set row 0 (get_or row 0 0 + 1)
-    → Did drum₀ out₀ d k out row' GoesOn (done (block_moved m n b c))
-moved_on {drum₀ = drum₀} {m = m} h n b c f e =
-    went_on (record { memory = f drum₀ m.cells h.memory; output = h.output; row_is = h.row_is; steady = h.steady }) e
+pub moved_on : {drum₀ out₀ drum marks out d k : List ℕ} {desk desk' : Desk} {m : Machine} (h : Shows drum₀ out₀ drum marks out desk m) (n b c : ℕ)
+    → Keeps drum marks d k (λ v. cells_moved v n b c) → Went desk (desk.state.location + 1) desk'
+    → Did drum₀ out₀ d k out desk' (Ok GoesOn) (done (block_moved m n b c))
+moved_on {drum₀ = drum₀} {desk = desk} {m = m} h n b c f e =
+    went_on {desk = desk} (record { memory = f drum₀ m.cells h.memory; output = h.output; state_is = h.state_is; written_is = h.written_is }) e

@@ -10,7 +10,7 @@ use borrow.Author.Tests.{lt-ltb, le-ltb}
 use Rattle.rules.specs.Cards.{card_of, word_in, word_place}
 use Rattle.rules.specs.Drum.{store}
 use Rattle.rules.specs.Decks.{card_at, card_size, Piece, cut_from, DataCard, data_in, data_from, words_stored, cards_stored}
-use Rattle.rules.specs.declared.Cell.{Cell}
+use Rattle.rules.specs.Answers.{Cell}
 use Rattle.rules.specs.declared.Card.{Card}
 use Rattle.rules.specs.declared.Card.TheVariants.{Data, First, Bad, End}
 use Rattle.rules.proofs.Decks.{Other, data_next, data_none}

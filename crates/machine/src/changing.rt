@@ -3,10 +3,10 @@ ghost use Rattle.std.specs.Prelude.{◌≡◌, ◌<◌, ◌≤◌};
 ghost use Rattle.rules.specs.Drum.{word_at};
 ghost use Rattle.rules.specs.Orders.{carried, changed};
 ghost use Rattle.drum.specs.Held.{Ready};
-ghost use Rattle.machine.specs.Lent.{Fitting, DoesQuietly};
+ghost use Rattle.machine.specs.Lent.{DoesQuietly};
 
-use crate::rows::go_on;
-use rules::{Address, Changing, Outcome, Reckoned, Refusal};
+use crate::desk::Desk;
+use rules::{Address, Changing, Done, Outcome, Reckoned, Refusal};
 
 // The word w with one of its addresses changed; or a refusal, where its ten digits do not hold the sum.
 fn changed_word(k: Changing, x: Address, w: u64, c: u32) -> Reckoned
@@ -21,22 +21,22 @@ fn changed_word(k: Changing, x: Address, w: u64, c: u32) -> Reckoned
             let old = words::address_in(x, w);
             let part = old * worth;
             let put = w - part + n;
-            Reckoned::Result(put)
+            Ok(put)
         }
         Changing::AddTo => {
             let sum = digits + n;
             if 9_999_999_999 < sum {
-                return Reckoned::Refused(Refusal::BadAddress);
+                return Err(Refusal::BadAddress);
             }
             let more = w + n;
-            Reckoned::Result(more)
+            Ok(more)
         }
         Changing::SubFrom => {
             if digits < n {
-                return Reckoned::Refused(Refusal::BadAddress);
+                return Err(Refusal::BadAddress);
             }
             let less = w - n;
-            Reckoned::Result(less)
+            Ok(less)
         }
     }
 }
@@ -45,24 +45,19 @@ fn changed_word(k: Changing, x: Address, w: u64, c: u32) -> Reckoned
 pub fn change(
     drum: &mut [u64],
     marks: &mut [u8],
-    row: &mut [u64; 10],
+    desk: &mut Desk,
     k: Changing,
     x: Address,
     b: usize,
     c: usize,
 ) -> Outcome
-    requires { Ready drum.old marks.old × Fitting row.old × (b < 1000) × (c < 1000) }
-    ensures { DoesQuietly drum.old marks.old row.old
-        drum.new marks.new row.new result (λ m. changed m b (carried k x (word_at m.cells b) c)) }
+    requires { Ready drum.old marks.old × (desk.old.state.location ≤ 999) × (b < 1000) × (c < 1000) }
+    ensures { DoesQuietly drum.old marks.old desk.old
+        drum.new marks.new desk.new result (λ m. changed m b (carried k x (word_at m.cells b) c)) }
 {
     let w = drum::word(drum, marks, b);
-    let q = changed_word(k, x, w, c as u32);
-    match q {
-        Reckoned::Result(y) => {
-            drum::keep(drum, marks, b, y);
-            go_on(row);
-            Outcome::GoesOn
-        }
-        Reckoned::Refused(f) => Outcome::Undone(f),
-    }
+    let y = changed_word(k, x, w, c as u32)?;
+    drum::keep(drum, marks, b, y);
+    desk.go_on();
+    Ok(Done::GoesOn)
 }

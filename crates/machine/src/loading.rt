@@ -4,7 +4,7 @@ ghost use Rattle.machine.specs.Lent.{LoadRight};
 
 use crate::Loaded;
 use crate::reading::store_cards;
-use rules::{Bar, Deck, Loading, State};
+use rules::{Bar, Start, State};
 
 // Check 10 and the check of the deck come first, and a call that one of them refuses changes nothing.
 pub fn load(drum: &mut [u64], marks: &mut [u8], deck: &[u8], state: State, traced: bool) -> Loaded
@@ -14,27 +14,27 @@ pub fn load(drum: &mut [u64], marks: &mut [u8], deck: &[u8], state: State, trace
 {
     if !drum::is_fit(drum, marks) {
         return Loaded {
-            loading: Loading::NotLoaded(Bar::BadDrum),
+            loading: Err(Bar::BadDrum),
             state,
         };
     }
-    let d = card::check_deck(deck);
-    match d {
-        Deck::Faulty(f) => Loaded {
-            loading: Loading::NotLoaded(Bar::BadDeck(f)),
+    match card::check_deck(deck) {
+        Err(f) => Loaded {
+            loading: Err(Bar::BadDeck(f)),
             state,
         },
-        Deck::Good {
-            behind,
-            order,
-            problem,
-        } => {
+        Ok(
+            Start {
+                behind,
+                order,
+                problem,
+            },
+        ) => {
             store_cards(drum, marks, deck, 0, behind);
             drum::keep(drum, marks, 0, 0);
-            let s = states::begin(behind, order, problem, traced);
             Loaded {
-                loading: Loading::Loaded,
-                state: s,
+                loading: Ok(()),
+                state: states::begin(behind, order, problem, traced),
             }
         }
     }

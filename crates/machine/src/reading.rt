@@ -5,10 +5,10 @@ ghost use Rattle.rules.specs.Decks.{data_from, words_stored, cards_stored, judge
 ghost use Rattle.rules.specs.Machine.{Inputs};
 ghost use Rattle.rules.specs.Orders.{read};
 ghost use Rattle.drum.specs.Held.{Keeps};
-ghost use Rattle.machine.specs.Lent.{Fitting, DoesQuietly};
+ghost use Rattle.machine.specs.Lent.{DoesQuietly};
 
-use crate::rows::{READER, go_on};
-use rules::{Card, Judged, Outcome};
+use crate::desk::Desk;
+use rules::{Card, Done, Outcome};
 
 // The words of the card at the start of d go to the cells from `location` on.
 fn store_words(drum: &mut [u64], marks: &mut [u8], d: &[u8], location: usize, words: usize)
@@ -17,15 +17,14 @@ fn store_words(drum: &mut [u64], marks: &mut [u8], d: &[u8], location: usize, wo
     ensures { Keeps drum.old marks.old drum.new marks.new
         (words_stored d.now location words) }
 {
-    let mut i: usize = 0;
-    while i < words {
+    for i in 0..words {
         let w = card::word_of(d, i);
         drum::keep(drum, marks, location + i, w);
-        i += 1;
     }
 }
 
-// The data cards from a place of the deck on that begin before another are stored, in order.
+// The data cards from a place of the deck on that begin before another are stored, in order. A `for` is no plainer: the card that a turn
+// stores says how far the next one is.
 pub fn store_cards(drum: &mut [u64], marks: &mut [u8], deck: &[u8], from: usize, end: usize)
     ensures { Keeps drum.old marks.old drum.new marks.new
         (cards_stored end (data_from deck.now from)) }
@@ -33,11 +32,10 @@ pub fn store_cards(drum: &mut [u64], marks: &mut [u8], deck: &[u8], from: usize,
     let mut at = from;
     while at < end {
         let Card::Data {
-            number: _,
             location,
             words,
-            problem: _,
             size,
+            ..
         } = card::card_at(deck, at)
         else {
             return;
@@ -51,24 +49,19 @@ pub fn store_cards(drum: &mut [u64], marks: &mut [u8], deck: &[u8], from: usize,
 pub fn read(
     drum: &mut [u64],
     marks: &mut [u8],
-    row: &mut [u64; 10],
+    desk: &mut Desk,
     b: usize,
     c: usize,
     deck: &[u8],
 ) -> Outcome
-    requires { Fitting row.old }
-    ensures { (i : Inputs) → i.deck ≡ deck.now → DoesQuietly drum.old marks.old row.old
-        drum.new marks.new row.new result (λ m. read i m (judged_from i.deck m.state.reader b c)) }
+    requires { desk.old.state.location ≤ 999 }
+    ensures { (i : Inputs) → i.deck ≡ deck.now → DoesQuietly drum.old marks.old desk.old
+        drum.new marks.new desk.new result (λ m. read i m (judged_from i.deck m.state.reader b c)) }
 {
-    let reader = row[READER] as usize;
-    let j = card::judge(deck, reader, b, c);
-    match j {
-        Judged::Fits(end) => {
-            store_cards(drum, marks, deck, reader, end);
-            go_on(row);
-            row[READER] = end as u64;
-            Outcome::GoesOn
-        }
-        Judged::Fails(why) => Outcome::Undone(why),
-    }
+    let reader = desk.state.reader;
+    let end = card::judge(deck, reader, b, c)?;
+    store_cards(drum, marks, deck, reader, end);
+    desk.go_on();
+    desk.state.reader = end;
+    Ok(Done::GoesOn)
 }

@@ -1,38 +1,36 @@
 // Orders about tracing.
-ghost use Rattle.std.specs.Prelude.{◌≡◌};
+ghost use Rattle.std.specs.Prelude.{◌≡◌, ◌≤◌, Ok};
+ghost use Rattle.rules.specs.Words.{pick};
 ghost use Rattle.rules.specs.Orders.{retraced};
 ghost use Rattle.rules.specs.Machine.{done};
-ghost use Rattle.machine.specs.Lent.{Fitting, Turned, DoesQuietly};
+ghost use Rattle.machine.specs.Lent.{Turned, DoesQuietly};
 
-use crate::rows::{MODE, TRACING, go_on, location};
-use rules::{Outcome, Tracing};
+use crate::desk::Desk;
+use rules::{Done, Tracing};
 
-// On to the next order, and tracing is turned on or off in traced mode.
-fn turn(row: &mut [u64; 10], t: u64)
-    requires { Fitting row.old }
-    ensures { Turned row.old t row.new }
+// In traced mode tracing is turned on or off; and on to the next order.
+fn turn(desk: &mut Desk, on: bool)
+    requires { desk.old.state.location ≤ 999 }
+    ensures { Turned desk.old (pick on 1 0) desk.new }
 {
-    if row[MODE] == 1 {
-        go_on(row);
-        row[TRACING] = t;
-        return;
+    if desk.state.mode == 1 {
+        desk.state.tracing = u64::from(on);
     }
-    go_on(row);
+    desk.go_on();
 }
 
-// One order about tracing. ST TR ERAS becomes a NOOP in its own cell.
-pub fn retrace(drum: &mut [u64], marks: &mut [u8], row: &mut [u64; 10], k: Tracing)
-    requires { Fitting row.old }
-    ensures { DoesQuietly drum.old marks.old row.old
-        drum.new marks.new row.new Outcome.GoesOn (λ m. done (retraced m k)) }
+// One order about tracing. ST TR ERAS becomes a NOOP in its own cell. No plainer as closures: only that one has to do with the drum.
+pub fn retrace(drum: &mut [u64], marks: &mut [u8], desk: &mut Desk, k: Tracing)
+    requires { desk.old.state.location ≤ 999 }
+    ensures { DoesQuietly drum.old marks.old desk.old
+        drum.new marks.new desk.new (Ok Done.GoesOn) (λ m. done (retraced m k)) }
 {
     match k {
-        Tracing::StartTr => turn(row, 1),
-        Tracing::StopTr => turn(row, 0),
+        Tracing::StartTr => turn(desk, true),
+        Tracing::StopTr => turn(desk, false),
         Tracing::StTrEras => {
-            let l = location(row);
-            drum::keep(drum, marks, l, 454_000_000);
-            turn(row, 1);
+            drum::keep(drum, marks, desk.state.location, 454_000_000);
+            turn(desk, true);
         }
     }
 }

@@ -1,3 +1,4 @@
+pub mod Left
 pub mod Ahead
 pub mod Writing
 pub mod Answers

@@ -1,5 +1,5 @@
 -- The cards of the deck written into the output, one right behind the other. Assumes nothing.
-use Prim.Native.Nat.{ℕ, ◌+◌, ◌-◌, ◌*◌, ◌≤◌, ◌<◌}
+use Prim.Native.Nat.{ℕ, ◌+◌, ◌-◌, ◌*◌, ◌≤◌}
 use mathlib.Core.Path.{◌≡◌, refl, sym, ap, subst, ◌∙◌}
 use mathlib.Core.List.{List, [], ◌∷◌, ◌++◌, append_assoc, append-nil}
 use mathlib.Core.Bool.{Bool, true}
@@ -9,12 +9,12 @@ use borrow.Author.Tests.{le-leb}
 use Rattle.rules.specs.Cards.{data_card, first_card}
 use Rattle.rules.specs.Orders.{words_from}
 use Rattle.rules.specs.Running.{over}
-use Rattle.rules.specs.Making.{Block, neighbours, blocks_in, cards_for}
-use Rattle.rules.specs.declared.Cell.{Cell}
+use Rattle.rules.specs.Making.{Block, blocks_in, cards_for}
+use Rattle.rules.specs.Answers.{Cell}
 use Rattle.rules.proofs.Fields.{length_first}
 use Rattle.rules.proofs.Parts.{part_of, put_back, part_is}
 use Rattle.rules.proofs.Punching.{card_bytes}
-use Rattle.rules.proofs.Blocks.{Ahead, all_ahead}
+use Rattle.rules.proofs.Blocks.{Ahead, all_ahead, run_inside}
 use Rattle.rules.proofs.MadeSizes.{elevens, cards_bytes}
 use Rattle.octets.specs.Put.{splice}
 use Rattle.octets.proofs.Joins.{Put, length-splice, put_nothing, put_part, put_over, part_spliced}
@@ -24,7 +24,7 @@ use Rattle.card.proofs.Writes.{all_words_lem, was_whole}
 use Rattle.drum.specs.Held.{Words}
 use Rattle.drum.specs.Blocks.{first_words}
 use Rattle.drum.proofs.Runs.{gathered}
-use Rattle.making.proofs.Ahead.{Next, passed, none_ahead}
+use Rattle.making.proofs.Ahead.{Next, next}
 
 -- ---- a card that may be written, and has room, stands at its place
 
@@ -77,20 +77,21 @@ first_stands cards out₀ out p at order problem low top posed e q room w =
 
 -- ---- the loop over the cards
 
--- how far it has come: what stands in the output, with the cards ahead behind it, is all cards; their numbers are no higher than the cell
-pub record Written (v : List Cell) (problem : ℕ) (out₀ out : List ℕ) (at number a : ℕ) : Type 0 where
-  pub blocks : List Block
-  pub ahead : Ahead v a blocks
+-- how far it has come: what stands in the output, with the cards of the blocks ahead behind it, is all cards; their numbers are no higher
+-- than the cell that the blocks are ahead of
+pub record Written (v : List Cell) (problem : ℕ) (out₀ out : List ℕ) (at number : ℕ) (blocks : List Block) : Type 0 where
+  pub cell : ℕ
+  pub ahead : Ahead v cell blocks
   pub sent : List ℕ
   pub all : sent ++ cards_for v problem number blocks ≡ cards_for v problem 1 (blocks_in v)
   pub put : Put out₀ 0 sent at out
   pub low : 1 ≤ number
-  pub upto : number ≤ a
+  pub upto : number ≤ cell
 
-pub none_written : (v : List Cell) (problem : ℕ) (out : List ℕ) → Written v problem out out 0 1 1
+pub none_written : (v : List Cell) (problem : ℕ) (out : List ℕ) → Written v problem out out 0 1 (blocks_in v)
 none_written v problem out =
     record {
-      blocks = blocks_in v;
+      cell = 1;
       ahead = all_ahead v;
       sent = [];
       all = refl;
@@ -99,66 +100,59 @@ none_written v problem out =
       upto = omega arith;
     }
 
-module _ {v : List Cell} {problem : ℕ} {out₀ out : List ℕ} {at number a : ℕ} (h : Written v problem out₀ out at number a) where
-  pub still_long : length out ≡ length out₀
-  still_long = put_long h.put
+pub still_long : {v : List Cell} {problem : ℕ} {out₀ out : List ℕ} {at number : ℕ} {bs : List Block} → Written v problem out₀ out at number bs
+    → length out ≡ length out₀
+still_long h = put_long h.put
 
-  -- an unmarked cell
-  pub written_on : a < 1000 → neighbours v a 5 ≡ 0 → Written v problem out₀ out at number (a + 1)
-  written_on l e =
-      record {
-        blocks = h.blocks;
-        ahead = passed h.ahead l e;
-        sent = h.sent;
-        all = h.all;
-        put = h.put;
-        low = h.low;
-        upto = omega (arith, h.upto);
-      }
+-- a card, for which there is room where there is room for all
+module _ {v : List Cell} {problem : ℕ} {out₀ out : List ℕ} {at number a n : ℕ} {bs : List Block}
+    (h : Written v problem out₀ out at number (record { location = a; cells = n } ∷ bs)) where
+  found : Next v h.cell (record { location = a; cells = n }) bs
+  found = next (record { location = a; cells = n }) bs h.ahead
 
-  -- a card, for which there is room where there is room for all
-  module _ {n : ℕ} (next : Next v a n h.blocks) (room : length (cards_for v problem 1 (blocks_in v)) ≤ length out₀) where
+  module _ (long : length v ≡ 1000) (room : length (cards_for v problem 1 (blocks_in v)) ≤ length out₀) where
     card : List ℕ
     card = data_card number a (words_from v a n) problem
-
-    all_so : h.sent ++ cards_for v problem number (record { location = a; cells = n } ∷ next.rest) ≡ cards_for v problem 1 (blocks_in v)
-    all_so = ap (λ (bs : List Block). h.sent ++ cards_for v problem number bs) (sym next.is) ∙ h.all
 
     fits : at + (11 + 11 * n) ≤ length out₀
     unfolding elevens
     fits =
-        let bs : List Block = record { location = a; cells = n } ∷ next.rest in
-        omega (
-          arith,
-          ap length all_so,
-          length-append h.sent (cards_for v problem number bs),
-          cards_bytes v problem number bs,
-          h.put.ends,
+        let all : List Block = record { location = a; cells = n } ∷ bs in
+        omega (arith, ap length h.all, length-append h.sent (cards_for v problem number all), cards_bytes v problem number all, h.put.ends)
+
+    pub block_fits : (1 ≤ a) × (a + n ≤ 1000) × (1 ≤ n) × (n ≤ 5) × (number ≤ 9999) × (at + (11 + 11 * n) ≤ length out)
+    block_fits =
+        let top = run_inside found.some found.run in
+        let upto : number ≤ a = omega (arith, h.upto, found.behind) in
+        let some = found.some in (
+          omega (arith, h.low, upto),
+          omega (arith, top, long),
+          some,
+          found.run.few,
+          omega (arith, upto, top, some, long),
+          omega (arith, still_long h, fits),
         )
 
-    pub room_left : at + (11 + 11 * n) ≤ length out
-    room_left = omega (arith, still_long, fits)
-
-    pub written_more : {out' : List ℕ} → 1 ≤ n → out' ≡ splice at (data_card number a (words_from v a n) problem) out
-        → Written v problem out₀ out' (at + (11 + 11 * n)) (number + 1) (a + n)
+    pub written_more : {out' : List ℕ} → out' ≡ splice at (data_card number a (words_from v a n) problem) out
+        → Written v problem out₀ out' (at + (11 + 11 * n)) (number + 1) bs
     unfolding cards_for card
-    written_more some e =
+    written_more e =
         record {
-          blocks = next.rest;
-          ahead = next.ahead;
+          cell = a + n;
+          ahead = found.ahead;
           sent = h.sent ++ card;
-          all = append_assoc h.sent card (cards_for v problem (number + 1) next.rest) ∙ all_so;
+          all = append_assoc h.sent card (cards_for v problem (number + 1) bs) ∙ h.all;
           put = put_part card (11 + 11 * n) h.put e (card_bytes v number a n problem) refl fits;
           low = omega arith;
-          upto = omega (arith, h.upto);
+          upto = omega (arith, h.upto, found.behind, found.some);
         }
 
-  -- and behind the last cell all cards stand there
-  pub all_written : length v ≡ 1000 → 1000 ≤ a
-      → (at ≡ length (cards_for v problem 1 (blocks_in v))) × (out ≡ over (cards_for v problem 1 (blocks_in v)) out₀)
-  unfolding cards_for
-  all_written long l =
-      let none : h.blocks ≡ [] = none_ahead long l h.ahead in
-      let whole : h.sent ≡ cards_for v problem 1 (blocks_in v) =
-      sym (append-nil h.sent) ∙ ap (λ (bs : List Block). h.sent ++ cards_for v problem number bs) (sym none) ∙ h.all in
-      (omega (arith, h.put.ends, ap length whole), put_over h.put ∙ ap (λ (s : List ℕ). over s out₀) whole)
+-- and where no block is ahead all cards stand there
+pub all_written : {v : List Cell} {problem : ℕ} {out₀ out : List ℕ} {at number : ℕ} {bs : List Block}
+    → Written v problem out₀ out at number bs → bs ≡ []
+    → (at ≡ length (cards_for v problem 1 (blocks_in v))) × (out ≡ over (cards_for v problem 1 (blocks_in v)) out₀)
+unfolding cards_for
+all_written {v} {problem} {out₀} {number = number} h e =
+    let whole : h.sent ≡ cards_for v problem 1 (blocks_in v) =
+    sym (append-nil h.sent) ∙ ap (λ (bs : List Block). h.sent ++ cards_for v problem number bs) (sym e) ∙ h.all in
+    (omega (arith, h.put.ends, ap length whole), put_over h.put ∙ ap (λ (s : List ℕ). over s out₀) whole)

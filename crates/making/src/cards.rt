@@ -8,7 +8,7 @@ ghost use Rattle.rules.specs.Making.{deck_made};
 ghost use Rattle.octets.specs.Put.{splice};
 ghost use Rattle.making.specs.Made.{Sound, cards_of};
 
-use crate::blocks::card_from;
+use crate::blocks::Blocks;
 
 // The card of the n cells from a on, at a place of the output.
 fn write_card(
@@ -40,17 +40,10 @@ fn write_cards(drum: &[u64], marks: &[u8], out: &mut [u8], problem: u64) -> usiz
 {
     let mut at: usize = 0;
     let mut number: u64 = 1;
-    let mut a: usize = 1;
-    while a < 1000 {
-        let n = card_from(drum, marks, a);
-        if n == 0 {
-            a += 1;
-            continue;
-        }
+    for (a, n) in Blocks::of(drum, marks) {
         write_card(drum, marks, out, at, number, a, n, problem);
         at += 11 + 11 * n;
         number += 1;
-        a += n;
     }
     at
 }

@@ -8,19 +8,13 @@ ghost use Rattle.std.specs.Prelude.{◌≡◌};
 ghost use Rattle.rules.specs.Making.{numbers_fit, made};
 ghost use Rattle.making.specs.Made.{MakeRight};
 
-use rules::Making;
+use rules::{Making, Unmade};
 
 // Whether a deck may have this first order and this problem number.
 fn numbers_fit(order: u64, problem: u64) -> bool
     ensures { result ≡ numbers_fit order problem }
 {
-    if order < 1 {
-        return false;
-    }
-    if 999 < order {
-        return false;
-    }
-    problem <= 999
+    (1..=999).contains(&order) && problem <= 999
 }
 
 // The deck of a drum's marked cells 001 to 999, with this first order and this problem number. The checks 10, 12 and 22 come first, and a
@@ -31,15 +25,15 @@ pub fn make(drum: &[u64], marks: &[u8], out: &mut [u8], order: u64, problem: u64
         out.new result }
 {
     if !drum::is_fit(drum, marks) {
-        return Making::UnfitDrum;
+        return Err(Unmade::UnfitDrum);
     }
     if !numbers_fit(order, problem) {
-        return Making::UnfitNumber;
+        return Err(Unmade::UnfitNumber);
     }
     let size = blocks::deck_size(drum, marks);
     if out.len() < size {
-        return Making::Full;
+        return Err(Unmade::Full);
     }
     cards::write_deck(drum, marks, out, order as usize, problem);
-    Making::Made(size)
+    Ok(size)
 }

@@ -1,4 +1,5 @@
 -- Sums in 64 bits: two numbers less than ten places apart, counted in units of the smaller exponent. Assumes nothing.
+use Rattle.std.proofs.Common.{Ok}
 use Prim.Native.Nat.{ℕ, ◌+◌, ◌-◌, ◌*◌, ◌/◌, ◌^◌, ◌≤◌, ◌<◌}
 use mathlib.Core.Path.{◌≡◌, refl, sym, ap, ◌∙◌}
 use mathlib.Core.Bool.{Bool, true, false}
@@ -10,18 +11,24 @@ use lib.Dec.{eqb, leb}
 use lib.Pow.{pow-add}
 use borrow.Author.Tests.{eqb-true, eqb-false, leb-true, leb-false}
 use Rattle.rules.specs.Words.{pick}
-use Rattle.rules.specs.Rounding.{single, placed, settled, fraction, sum}
+use Rattle.rules.specs.Rounding.{single, placed, settled, fraction}
 use Rattle.rules.specs.Arithmetic.{word_of}
-use Rattle.rules.specs.declared.Reckoned.TheVariants.{Result}
 use Rattle.rules.proofs.Nearest.{ten_rises}
 use Rattle.rules.proofs.Fractions.{none_halves, whole_halves}
 use Rattle.rules.proofs.Rounding.{settled_none}
 use Rattle.rules.proofs.Sums.{sum_at, same_at, first_at, second_at, far_at}
 use Rattle.powers.specs.Powers.{power_of}
 use Rattle.powers.proofs.Powers.{in_table}
-use Rattle.number.specs.Asked.{Aligned}
 
-pub none : (s v j : ℕ) → v ≡ 0 → word_of (settled single s (fraction (v * 10 ^ j) 1)) ≡ Result 0
+-- Two numbers taken apart, the one of the larger exponent first. It is +0 only where both exponents are 00.
+pub record Aligned (m x n y : ℕ) : Type 0 where
+  pub least : 0 < x → 10 ^ 7 ≤ m
+  pub most : m < 10 ^ 8
+  pub other : n < 10 ^ 8
+  pub top : x ≤ 99
+  pub order : y ≤ x
+
+pub none : (s v j : ℕ) → v ≡ 0 → word_of (settled single s (fraction (v * 10 ^ j) 1)) ≡ Ok 0
 none s v j z = ap word_of (settled_none single s (fraction (v * 10 ^ j) 1) (none_halves (v * 10 ^ j) 1 (ap (λ (t : ℕ). t * 10 ^ j) z ∙ zero-mul (10 ^ j))))
 
 -- v units told in w units that are smaller by i places, of which there are no more than eight digits
@@ -57,25 +64,25 @@ finer_is v w i j f l =
     ap (λ (t : ℕ). v * t) (ap (λ (t : ℕ). 10 ^ t) (omega arith) ∙ pow-add 10 i k) ∙ sym (mul_assoc v (10 ^ i) (10 ^ k)) ∙ ap (λ (t : ℕ). t * 10 ^ k) (sym f.made) in
     ap (λ (t : ℕ). fraction t 1 / 10 ^ k) whole ∙ whole_halves w k
 
--- what two magnitudes come to is no more than their sum, and its sign is a sign
+-- what two magnitudes come to is no more than their sum
 pub joined_most : (same less : Bool) (p n : ℕ) → pick same (p + n) (pick less (p - n) (n - p)) ≤ p + n
 joined_most true less p n = omega arith
 joined_most false true p n = omega arith
 joined_most false false p n = omega arith
 
-pub kept_sign : (less : Bool) (s t : ℕ) → s ≤ 1 → t ≤ 1 → pick less s t ≤ 1
-kept_sign true s t l g = l
-kept_sign false s t l g = g
+-- what one leaves of the other
+pub left_over : (p n : ℕ) → p - n + (n - p) ≡ pick (leb n p) (p - n) (n - p)
+left_over p n = by_test (leb n p) refl
+  where
+    by_test : (b : Bool) → leb n p ≡ b → p - n + (n - p) ≡ pick b (p - n) (n - p)
+    by_test true l = omega (arith, leb-true n p l)
+    by_test false l = omega (arith, leb-false n p l)
 
-module _ (s m x t n y : ℕ) (al : Aligned s m x t n y) where
+module _ (s m x t n y : ℕ) (al : Aligned m x n y) where
   pub far : 10 ≤ x - y → placed single s m (x + 100) ≡ sum_at single s m x t n y
   far l =
       let some : 0 < x = omega (arith, l) in
       sym (far_at single s m x t n y al.order (omega (arith, al.least some)) al.most (omega (arith, al.other, ten_rises l)))
-
-  -- as the words of these
-  pub far_word : 10 ≤ x - y → word_of (sum single s (m * 10 ^ (x + 100)) t (n * 10 ^ (y + 100))) ≡ word_of (placed single s m (x + 100))
-  far_word l = ap word_of (sym (far l))
 
   -- the digits of the first, moved up by r
   module _ (r : ℕ) (near : x - y < 10) (is : r ≡ power_of (x - y)) where

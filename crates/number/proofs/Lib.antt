@@ -1,4 +1,4 @@
-mod Operands
+mod Taken
 mod Units
 mod Guesses
 mod Newton

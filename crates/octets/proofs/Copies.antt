@@ -1,6 +1,7 @@
 -- A loop that copies a list s element by element: what has been copied stands in the list d from a place on, or from its start until it
 -- is all of s. Assumes nothing.
-use mathlib.Core.Path.{◌≡◌, sym, ap, ap₂, ◌∙◌}
+use borrow.Rule.Slice.PartMut.{put_mid}
+use mathlib.Core.Path.{◌≡◌, refl, sym, ap, ap₂, ◌∙◌}
 use mathlib.Core.List.{List, ◌++◌, append-nil}
 use Prim.Native.Nat.{ℕ, ◌+◌, ◌<◌}
 use native.Mathlib.Nat.{zero-add}
@@ -8,6 +9,7 @@ use native.Mathlib.Numerals.{add-one}
 use native.Mathlib.Omega.{arith}
 use lib.ListN.{length, get_or, take, drop, set, drop_of_length-le}
 use lib.Seq.{paste, paste-suc, take-length}
+use Rattle.std.proofs.lemmas.Slice.{put_mid-paste}
 use Rattle.octets.specs.Put.{splice}
 
 module _ {l : List ℕ} (d s : List ℕ) (a i : ℕ) (e : l ≡ paste d a s i) where
@@ -31,3 +33,7 @@ module _ {l : List ℕ} (d s : List ℕ) (i : ℕ) (n : length s ≡ length d) (
       copy_end d s 0 i e (q ∙ sym n)
       ∙ ap (λ (t : List ℕ). s ++ t) (drop_of_length-le d {i = 0 + length s} (omega arith))
       ∙ append-nil s
+
+-- the copy of s over the part of d that begins at place a, by a call of the library
+pub copied : (a k : ℕ) (d s t : List ℕ) → t ≡ s → k ≡ length s → put_mid a k d t ≡ splice a s d
+copied a k d s t e q = copy_end d s a (length s) (put_mid-paste a k d t s (length s) e (sym q) refl) refl

@@ -1,12 +1,10 @@
--- A part that fits is written, and one that does not leaves all as it was; and parts that are written one right behind the other are one
--- part. Assumes nothing.
+-- A part that fits is written, and parts that are written one right behind the other are one part. Assumes nothing.
 use mathlib.Core.Path.{◌≡◌, sym, ap, ◌∙◌}
-use mathlib.Core.Bool.{Bool, true, false}
+use mathlib.Core.Bool.{Bool}
 use mathlib.Core.List.{List, [], ◌++◌, append_assoc, append-nil}
 use Prim.Native.Nat.{ℕ, ◌+◌, ◌≤◌}
 use native.Mathlib.Omega.{arith}
 use borrow.Author.Tests.{le-leb}
-use lib.Dec.{leb}
 use lib.ListN.{length, take, drop, length-append, length-drop, drop_of_length-le}
 use lib.Seq.{length-take-le, drop-drop}
 use Rattle.rules.specs.Words.{pick}
@@ -17,28 +15,9 @@ use Rattle.octets.proofs.Splices.{splice_none, splice_more, splice_start}
 
 -- ---- one part, of n bytes
 
-module _ {n : ℕ} (a : ℕ) (s d : List ℕ) (size : length s ≡ n) where
-  as_tested : (t : Bool) → leb (a + n) (length d) ≡ t → put_at a s d ≡ pick t (splice a s d) d
-  unfolding put_at
-  as_tested t e = ap (λ (u : Bool). pick u (splice a s d) d) (ap (λ (k : ℕ). leb (a + k) (length d)) size ∙ e)
-
-  pub put_done : {l : List ℕ} → leb (a + n) (length d) ≡ true → l ≡ splice a s d → l ≡ put_at a s d
-  put_done t e = e ∙ sym (as_tested true t)
-
-  pub put_left : leb (a + n) (length d) ≡ false → d ≡ put_at a s d
-  put_left t = sym (as_tested false t)
-
-  pub put_fits : a + n ≤ length d → put_at a s d ≡ splice a s d
-  put_fits h = as_tested true (le-leb (a + n) (length d) h)
-
--- nothing
-pub put_none : (a : ℕ) (d : List ℕ) → put_at a [] d ≡ d
+pub put_fits : {n : ℕ} (a : ℕ) (s d : List ℕ) → length s ≡ n → a + n ≤ length d → put_at a s d ≡ splice a s d
 unfolding put_at
-put_none a d = by_test (leb (a + 0) (length d))
-  where
-    by_test : (t : Bool) → pick t (splice a [] d) d ≡ d
-    by_test true = sym (splice_none a d)
-    by_test false = λ i. d
+put_fits a s d size h = ap (λ (t : Bool). pick t (splice a s d) d) (le-leb (a + length s) (length d) (omega arith))
 
 pub length-splice : (a : ℕ) (s d : List ℕ) → a + length s ≤ length d → length (splice a s d) ≡ length d
 unfolding splice

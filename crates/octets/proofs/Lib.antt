@@ -1,4 +1,5 @@
 pub mod Splices
+pub mod Widths
 pub mod Copies
 pub mod Joins
 pub mod Digits

@@ -10,8 +10,6 @@ use Rattle.octets.proofs.fields.width_of.Kinds as width-of-kinds
 use Rattle.octets.proofs.fields.width_of.Reads as width_of_lem
 use Rattle.octets.proofs.puts.copy.Kinds as copy-kinds
 use Rattle.octets.proofs.puts.copy.Reads as copy
-use Rattle.octets.proofs.puts.lesser.Kinds as lesser-kinds
-use Rattle.octets.proofs.puts.lesser.Reads as lesser
 use Rattle.octets.proofs.puts.put_byte.Kinds as put-byte-kinds
 use Rattle.octets.proofs.puts.put_byte.Reads as put_byte
 use Rattle.octets.proofs.puts.put_run.Kinds as put-run-kinds
@@ -24,9 +22,6 @@ use Rattle.octets.proofs.reads.number_in.Kinds as number-in-kinds
 use Rattle.octets.proofs.reads.number_in.Reads as number_in
 use Rattle.octets.proofs.reads.with_digit.Kinds as with-digit-kinds
 use Rattle.octets.proofs.reads.with_digit.Reads as with-digit
-
-pub one_lesser : OneResult 0 lesser-kinds.ps lesser-kinds.r lesser.Post
-one_lesser κs a x y s t p q = p ∙ sym q
 
 pub one_byte_put : Agrees 1 put-byte-kinds.ps put-byte-kinds.r put_byte.Post (λ κs x y s t. s.0.now ≡ t.0.now)
 one_byte_put κs a x y s t p q = p ∙ sym q

@@ -6,33 +6,28 @@ ghost use Rattle.octets.specs.Put.{splice, put_at};
 use crate::puts::has_room;
 
 // How many digits a number has: 1 for 0.
+#[tactic(auto, using(crate::proofs::Widths::width_is, crate::proofs::Widths::width_of_zero))]
 pub fn width_of(x: u64) -> usize
     ensures { (result ≡ width 20 x) × (result ≤ 20) }
 {
-    let mut n: usize = 1;
-    let mut y = x;
-    while 10 <= y {
-        y = y / 10;
-        n += 1;
-    }
-    n
+    x.checked_ilog10().map_or(1, |k| k as usize + 1)
 }
 
-// The last n digits of x, from place a on where they fit, written from the last back to the first: so each division is by ten.
+// The last n digits of x, from place a on where they fit, written from the last back to the first: so each division is by ten. The stores
+// are by the place: of what is written through `iter_mut().rev()` a proof knows nothing.
 fn set_field(out: &mut [u8], a: usize, n: usize, x: u64)
     requires { a + n ≤ length out.old }
     ensures { out.new ≡ splice a (digits n x) out.old }
 {
     let mut y = x;
-    let mut i = n;
-    while 0 < i {
-        i -= 1;
+    for i in (0..n).rev() {
         out[a + i] = b'0' + (y % 10) as u8;
-        y = y / 10;
+        y /= 10;
     }
 }
 
 // The last n digits of x, from place a on.
+#[tactic(auto, unfolding(crate::specs::Put::put_at), using(rules::proofs::Digits::length_digits))]
 pub fn put_field(out: &mut [u8], a: usize, n: usize, x: u64)
     ensures { out.new ≡ put_at a (digits n x) out.old }
 {
@@ -58,6 +53,7 @@ fn set_word(out: &mut [u8], a: usize, w: u64)
 }
 
 // A word at place a.
+#[tactic(auto, unfolding(crate::specs::Put::put_at), using(rules::proofs::Fields::length_word))]
 pub fn put_word(out: &mut [u8], a: usize, w: u64)
     ensures { out.new ≡ put_at a (word_bytes w) out.old }
 {

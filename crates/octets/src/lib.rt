@@ -5,7 +5,9 @@
 mod fields;
 mod puts;
 mod reads;
+mod rooms;
 
 pub use fields::{put_field, put_word, width_of};
-pub use puts::{copy, lesser, put_byte, put_run};
-pub use reads::{Longer, byte_at, is_digit, number_in, with_digit};
+pub use puts::{copy, put_byte, put_run};
+pub use reads::{DigitError, byte_at, is_digit, number_in, with_digit};
+pub use rooms::room;

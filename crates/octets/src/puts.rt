@@ -6,20 +6,11 @@ ghost use Rattle.octets.specs.Put.{splice, put_at};
 pub(crate) fn has_room(size: usize, a: usize, n: usize) -> bool
     ensures { result ≡ leb (a + n) size }
 {
-    if size < n {
-        return false;
-    }
-    a <= size - n
+    n <= size && a <= size - n
 }
 
-// The lesser of two numbers.
-pub fn lesser(a: usize, b: usize) -> usize
-    ensures { result ≡ min a b }
-{
-    if a < b { a } else { b }
-}
-
-// One byte at place a.
+// One byte at place a. The store is by the place: of a slice whose `get_mut` has been written to, a proof knows the length alone.
+#[tactic(auto, unfolding(crate::specs::Put::put_at), using(crate::proofs::Splices::splice_one))]
 pub fn put_byte(out: &mut [u8], a: usize, b: u8)
     ensures { out.new ≡ put_at a (b ∷ []) out.old }
 {
@@ -28,24 +19,13 @@ pub fn put_byte(out: &mut [u8], a: usize, b: u8)
     }
 }
 
-// A whole run from place a on, where it fits.
-fn set_run(out: &mut [u8], a: usize, run: &[u8])
-    requires { a + length run.now ≤ length out.old }
-    ensures { out.new ≡ splice a run.now out.old }
-{
-    let mut i: usize = 0;
-    while i < run.len() {
-        out[a + i] = run[i];
-        i += 1;
-    }
-}
-
 // A whole run from place a on.
+#[tactic(auto, unfolding(crate::specs::Put::put_at), using(crate::proofs::Copies::copied))]
 pub fn put_run(out: &mut [u8], a: usize, run: &[u8])
     ensures { out.new ≡ put_at a run.now out.old }
 {
     if has_room(out.len(), a, run.len()) {
-        set_run(out, a, run);
+        out[a..a + run.len()].copy_from_slice(run);
     }
 }
 
@@ -53,14 +33,6 @@ pub fn put_run(out: &mut [u8], a: usize, run: &[u8])
 pub fn copy(out: &mut [u8], a: usize, from: &[u8], b: usize, n: usize)
     ensures { out.new ≡ put_at a (take n (drop b from.now)) out.old }
 {
-    let size = from.len();
-    if size < b {
-        return;
-    }
-    if size - b < n {
-        put_run(out, a, &from[b..size]);
-        return;
-    }
-    let e = b + n;
-    put_run(out, a, &from[b..e]);
+    let rest = &from[b.min(from.len())..];
+    put_run(out, a, &rest[..n.min(rest.len())]);
 }

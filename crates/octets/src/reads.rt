@@ -7,76 +7,51 @@ ghost use Rattle.octets.specs.Longer.{longer};
 pub fn is_digit(b: u8) -> bool
     ensures { result ≡ is_digit b }
 {
-    if b < b'0' {
-        return false;
-    }
-    b <= b'9'
+    b.is_ascii_digit()
 }
 
 // The byte at place a, and 0 past the end.
 pub fn byte_at(d: &[u8], a: usize) -> u8
     ensures { result ≡ get_or d.now a 0 }
 {
-    if a < d.len() { d[a] } else { 0 }
-}
-
-// The byte i places behind place a, and 0 past the end.
-fn byte_behind(d: &[u8], a: usize, i: usize) -> u8
-    ensures { result ≡ get_or d.now (a + i) 0 }
-{
-    if d.len() < a {
-        return 0;
-    }
-    if i < d.len() - a { d[a + i] } else { 0 }
+    d.get(a).copied().unwrap_or(0)
 }
 
 // What a byte counts as a digit: 0 where it is below all digits.
 fn figure(b: u8) -> u64
     ensures { (result ≡ b - 48) × (result ≤ 207) }
 {
-    if b < b'0' { 0 } else { (b - b'0') as u64 }
+    u64::from(b.saturating_sub(b'0'))
 }
 
-// The smaller of a number and ten.
-fn at_most_ten(n: usize) -> usize
-    ensures { (result ≡ min n 10) × (result ≤ 10) }
-{
-    if n < 10 { n } else { 10 }
-}
-
-// The number that n digits from place a on are, or ten of them where there are more.
+// The number that n digits from place a on are, or ten of them where there are more. A place past the end counts as 0.
+#[tactic(auto, unfolding(rules::specs::Cards::number_in))]
 pub fn number_in(d: &[u8], a: usize, n: usize) -> u64
     ensures { (result ≡ number_in d.now a (min n 10)) × (result + 23 ≤ 23 * 10 ^ min n 10) }
 {
-    let m = at_most_ten(n);
-    let mut x: u64 = 0;
-    let mut i: usize = 0;
-    while i < m {
-        let b = byte_behind(d, a, i);
-        x = 10 * x + figure(b);
-        i += 1;
+    let rest = &d[a.min(d.len())..];
+    let mut x = 0;
+    for i in 0..n.min(10) {
+        x = 10 * x + figure(byte_at(rest, i));
     }
     x
 }
 
-// What a number is with one more digit behind it.
-#[derive(Clone, Copy)]
-pub enum Longer {
-    Number(u64),
+// Why a number takes no digit more.
+#[derive(Clone, Copy, Debug, PartialEq, Eq)]
+pub enum DigitError {
     TooLarge,
     NoDigit,
 }
 
 // The number x with the byte b behind it, where that is a digit and the number still fits.
-pub fn with_digit(x: u64, b: u8) -> Longer
+#[tactic(auto, unfolding(crate::specs::Longer::longer))]
+pub fn with_digit(x: u64, b: u8) -> Result<u64, DigitError>
     ensures { result ≡ longer x b }
 {
     if !is_digit(b) {
-        return Longer::NoDigit;
+        return Err(DigitError::NoDigit);
     }
-    let d = figure(b);
-    if (18_446_744_073_709_551_615 - d) / 10 < x {
-        return Longer::TooLarge;
-    }
-    Longer::Number(10 * x + d)
+    let tens = x.checked_mul(10).ok_or(DigitError::TooLarge)?;
+    tens.checked_add(figure(b)).ok_or(DigitError::TooLarge)
 }

@@ -1,4 +1,5 @@
 -- The two calls by their outcome: refused because the state is not nine numbers, or done by the machine. Assumes nothing.
+use Rattle.std.proofs.Common.{Err}
 use Prim.Native.Nat.{ℕ}
 use mathlib.Core.Path.{◌≡◌, refl, sym, ap, ◌∙◌, subst⁻¹}
 use mathlib.Core.List.{List}
@@ -10,11 +11,9 @@ use Rattle.rules.specs.Decks.{deck_of}
 use Rattle.rules.specs.Loads.{LoadCall, LoadResult, loaded}
 use Rattle.rules.specs.Running.{RunCall, RunResult, ran}
 use Rattle.rules.specs.States.{numbers_of}
-use Rattle.rules.specs.declared.Deck.{Deck}
+use Rattle.rules.specs.Answers.{Deck}
 use Rattle.rules.specs.declared.Bar.{Bar}
 use Rattle.rules.specs.declared.Bar.TheVariants.{BadDrum}
-use Rattle.rules.specs.declared.Loading.TheVariants.{NotLoaded}
-use Rattle.rules.specs.declared.Ending.TheVariants.{NotRun}
 use Rattle.machine.specs.Lent.{LoadRight, RunRight}
 use Rattle.machine.specs.declared.Loaded.{Loaded}
 use Rattle.machine.specs.declared.Ran.{Ran}
@@ -40,13 +39,13 @@ module _ (row : List ℕ) (c : LoadCall) where
   pub load_barred : {b : Bar} {r : Place}
       → is_state row ≡ false
       → b ≡ barred c.drum c.marks c.deck
-      → r ≡ loading_told (NotLoaded b)
+      → r ≡ loading_told (Err b)
       → LoadTold row (load_called row c) c.drum c.marks row r
   unfolding load_called
   load_barred {b} {r} h e t =
       subst⁻¹ (λ (x : LoadResult). LoadTold row x c.drum c.marks row r) (decided _ _ h)
       (record {
-        told_is = t ∙ ap (λ (k : Bar). loading_told (NotLoaded k)) e;
+        told_is = t ∙ ap (λ (k : Bar). loading_told (Err k)) e;
         drum_is = refl;
         marks_are = refl;
         row_is = sym (decided _ _ h);
@@ -75,13 +74,13 @@ module _ (row : List ℕ) (c : RunCall) where
   pub run_barred_lem : {b : Bar} {r : Ended}
       → is_state row ≡ false
       → b ≡ barred c.drum c.marks c.deck
-      → r ≡ ending_told (NotRun b) 0 0
+      → r ≡ ending_told (Err b) 0 0
       → RunTold row (run_called row c) c.drum c.marks c.out row r
   unfolding run_called
   run_barred_lem {b} {r} h e t =
       subst⁻¹ (λ (x : RunResult). RunTold row x c.drum c.marks c.out row r) (decided _ _ h)
       (record {
-        told_is = t ∙ ap (λ (k : Bar). ending_told (NotRun k) 0 0) e;
+        told_is = t ∙ ap (λ (k : Bar). ending_told (Err k) 0 0) e;
         drum_is = refl;
         marks_are = refl;
         out_is = refl;

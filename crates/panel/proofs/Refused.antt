@@ -1,5 +1,6 @@
 -- A refused load or run leaves all nine numbers of the state as they came, whatever they are, and a state of any other length too.
 -- Assumes nothing.
+use Rattle.std.proofs.Common.{Err, Ok}
 use Prim.Native.Nat.{ℕ}
 use mathlib.Core.Path.{◌≡◌, refl, ap, ◌∙◌}
 use mathlib.Core.List.{List}
@@ -13,14 +14,9 @@ use Rattle.rules.specs.Loads.{LoadCall, not_loaded, loaded_from, loaded}
 use Rattle.rules.specs.Machine.{present}
 use Rattle.rules.specs.Running.{RunCall, not_run, begun, inputs, run_from, state_fits, ran_as, ran_on, ran_by}
 use Rattle.rules.specs.States.{state_in, numbers_of}
-use Rattle.rules.specs.declared.Deck.{Deck}
-use Rattle.rules.specs.declared.Deck.TheVariants.{Good, Faulty}
+use Rattle.rules.specs.Answers.{Deck, Ending, Loading}
 use Rattle.rules.specs.declared.Bar.{Bar}
 use Rattle.rules.specs.declared.Bar.TheVariants.{BadDrum, BadState}
-use Rattle.rules.specs.declared.Loading.{Loading}
-use Rattle.rules.specs.declared.Loading.TheVariants.{Loaded, NotLoaded}
-use Rattle.rules.specs.declared.Ending.{Ending}
-use Rattle.rules.specs.declared.Ending.TheVariants.{Ran, NotRun}
 use Rattle.rules.proofs.States.{kept}
 use Rattle.panel.specs.Calls.{is_state, barred, row_after, load_call, load_called, run_call, run_called}
 
@@ -35,20 +31,20 @@ same_row row = by_length (is_state row) refl
 -- ---- load
 
 is_done : Loading → Bool
-is_done Loaded = true
-is_done (NotLoaded b) = false
+is_done (Ok _) = true
+is_done (Err b) = false
 
 load_state : (c : LoadCall) (t u : Bool) (d : Deck) (k b : Bar)
-    → (pick t (pick u (loaded_from c d) (not_loaded c BadDrum)) (not_loaded c k)).loading ≡ NotLoaded b
+    → (pick t (pick u (loaded_from c d) (not_loaded c BadDrum)) (not_loaded c k)).loading ≡ Err b
     → (pick t (pick u (loaded_from c d) (not_loaded c BadDrum)) (not_loaded c k)).state ≡ c.state
 unfolding loaded_from is_done
 load_state c false u d k b e = refl
 load_state c true false d k b e = refl
-load_state c true true (Faulty f) k b e = refl
-load_state c true true (Good behind order problem) k b e = absurd (true≢false (ap is_done e))
+load_state c true true (Err f) k b e = refl
+load_state c true true (Ok start) k b e = absurd (true≢false (ap is_done e))
 
 pub load_keeps : (drum marks deck row : List ℕ) (traced : ℕ) (b : Bar)
-    → (load_called row (load_call drum marks deck row traced)).loading ≡ NotLoaded b
+    → (load_called row (load_call drum marks deck row traced)).loading ≡ Err b
     → row_after row (load_called row (load_call drum marks deck row traced)).state ≡ row
 unfolding load_called loaded
 load_keeps drum marks deck row traced b e =
@@ -59,28 +55,28 @@ load_keeps drum marks deck row traced b e =
 -- ---- run
 
 has_run : Ending → Bool
-has_run (Ran o) = true
-has_run (NotRun b) = false
+has_run (Ok o) = true
+has_run (Err b) = false
 
 begun_state : (c : RunCall) (t : Bool) (b : Bar)
-    → (pick t (ran_as c (run_from (inputs c) c.budget (begun c) 0)) (not_run c BadState)).ending ≡ NotRun b
+    → (pick t (ran_as c (run_from (inputs c) c.budget (begun c) 0)) (not_run c BadState)).ending ≡ Err b
     → (pick t (ran_as c (run_from (inputs c) c.budget (begun c) 0)) (not_run c BadState)).state ≡ c.state
 unfolding ran_as has_run
 begun_state c true b e = absurd (true≢false (ap has_run e))
 begun_state c false b e = refl
 
 run_state : (c : RunCall) (t u : Bool) (d : Deck) (k b : Bar)
-    → (pick t (pick u (ran_on present c d) (not_run c BadDrum)) (not_run c k)).ending ≡ NotRun b
+    → (pick t (pick u (ran_on present c d) (not_run c BadDrum)) (not_run c k)).ending ≡ Err b
     → (pick t (pick u (ran_on present c d) (not_run c BadDrum)) (not_run c k)).state ≡ c.state
 unfolding ran_on
 run_state c false u d k b e = refl
 run_state c true false d k b e = refl
-run_state c true true (Faulty f) k b e = refl
-run_state c true true (Good behind order problem) k b e =
-    begun_state c (state_fits (view c.drum c.marks) c.deck behind c.state c.budget) b e
+run_state c true true (Err f) k b e = refl
+run_state c true true (Ok start) k b e =
+    begun_state c (state_fits (view c.drum c.marks) c.deck start.behind c.state c.budget) b e
 
 pub run_keeps : (drum marks deck out row : List ℕ) (budget stop : ℕ) (b : Bar)
-    → (run_called row (run_call drum marks deck out row budget stop)).ending ≡ NotRun b
+    → (run_called row (run_call drum marks deck out row budget stop)).ending ≡ Err b
     → row_after row (run_called row (run_call drum marks deck out row budget stop)).state ≡ row
 unfolding run_called ran_by
 run_keeps drum marks deck out row budget stop b e =

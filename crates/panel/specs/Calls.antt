@@ -1,6 +1,6 @@
 -- What a C program is told of a call of load, run or make, and what the drum, the marks, the output and the nine numbers of the state that
 -- it lent then hold. Assumes nothing.
-use Rattle.std.specs.Prelude.{ℕ, ◌≡◌, List, Bool, eqb, ltb, length}
+use Rattle.std.specs.Prelude.{ℕ, ◌≡◌, List, Bool, eqb, ltb, length, Ok, Err}
 use Rattle.rules.specs.Words.{pick}
 use Rattle.rules.specs.Numbers.{ending_number, ending_place, ending_shown, loading_number, loading_place, making_number, making_written}
 use Rattle.rules.specs.Drum.{view, drum_fits}
@@ -9,13 +9,9 @@ use Rattle.rules.specs.Loads.{LoadCall, LoadResult, not_loaded, loaded}
 use Rattle.rules.specs.Running.{RunCall, RunResult, not_run, ran}
 use Rattle.rules.specs.Making.{MakeCall, MakeResult}
 use Rattle.rules.specs.States.{state_in, numbers_of}
-use Rattle.rules.specs.declared.Deck.{Deck}
-use Rattle.rules.specs.declared.Deck.TheVariants.{Good, Faulty}
+use Rattle.rules.specs.Answers.{Deck, Ending, Loading, Making}
 use Rattle.rules.specs.declared.Bar.{Bar}
 use Rattle.rules.specs.declared.Bar.TheVariants.{BadDrum, BadDeck, BadState}
-use Rattle.rules.specs.declared.Loading.{Loading}
-use Rattle.rules.specs.declared.Ending.{Ending}
-use Rattle.rules.specs.declared.Making.{Making}
 use Rattle.rules.specs.declared.State.{State}
 use Rattle.panel.specs.declared.Place.{Place}
 use Rattle.panel.specs.declared.Ended.{Ended}
@@ -30,8 +26,8 @@ abbrev pub is_state : List ℕ → Bool
 is_state row = eqb (length row) 9
 
 abbrev pub bar_of : Deck → Bar
-bar_of (Faulty f) = BadDeck f
-bar_of (Good behind order problem) = BadState
+bar_of (Err f) = BadDeck f
+bar_of (Ok start) = BadState
 
 unfoldable pub barred : List ℕ → List ℕ → List ℕ → Bar
 barred drum marks deck = pick (drum_fits (length drum) marks (view drum marks)) (bar_of (deck_of deck)) BadDrum

@@ -1,8 +1,7 @@
 -- What a C program is told of each answer: the paper's number for it, and the value that goes with it. Assumes nothing.
 use Rattle.rules.specs.Numbers.{reckoned_number, reckoned_word, check_number, check_place}
-use Rattle.rules.specs.declared.Reckoned.{Reckoned}
+use Rattle.rules.specs.Answers.{Deck, Reckoned}
 use Rattle.rules.specs.declared.Sum.{Sum}
-use Rattle.rules.specs.declared.Deck.{Deck}
 use Rattle.panel.specs.declared.Word.{Word}
 use Rattle.panel.specs.declared.Summed.{Summed}
 use Rattle.panel.specs.declared.Place.{Place}

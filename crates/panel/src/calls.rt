@@ -4,9 +4,9 @@ ghost use Rattle.rules.specs.Making.{made};
 ghost use Rattle.panel.specs.Calls.{make_call, making_told, MakeTold};
 ghost use Rattle.panel.specs.Calls.{is_on, barred, load_call, load_called, loading_told, LoadTold, run_call, run_called, ending_told, RunTold};
 
-use crate::rows::{is_state, put_state, state_in};
 use crate::{Ended, Made, Place};
-use rules::{Bar, Deck, Ending, Loading, Making, Switches};
+use rules::{Bar, Ending, Loading, Making, State, Switches};
+use stops::{Told, making_written};
 
 // A switch is on at any number but 0.
 fn is_on(x: u64) -> bool
@@ -16,26 +16,28 @@ fn is_on(x: u64) -> bool
 }
 
 // What is told of a load.
-fn loading_told(x: Loading) -> Place
-    ensures { result ≡ loading_told x }
-{
-    let number = stops::loading_number(x);
-    let place = stops::loading_place(x);
-    Place { number, place }
+impl From<Loading> for Place {
+    ghost from_gives = { λ x told. told ≡ loading_told x };
+
+    fn from(x: Loading) -> Place {
+        let told = Told::from(x);
+        Place {
+            number: told.number,
+            place: told.place,
+        }
+    }
 }
 
 // What is told of a run.
 fn ending_told(x: Ending, count: u64, written: usize) -> Ended
     ensures { result ≡ ending_told x count written }
 {
-    let number = stops::ending_number(x);
-    let place = stops::ending_place(x);
-    let shown = stops::ending_shown(x);
+    let told = Told::from(x);
     Ended {
-        number,
-        place,
+        number: told.number,
+        place: told.place,
         count,
-        shown,
+        shown: told.shown,
         written: written as u64,
     }
 }
@@ -47,14 +49,9 @@ fn why_barred(drum: &[u64], marks: &[u8], deck: &[u8]) -> Bar
     if !drum::is_fit(drum, marks) {
         return Bar::BadDrum;
     }
-    let d = card::check_deck(deck);
-    match d {
-        Deck::Faulty(f) => Bar::BadDeck(f),
-        Deck::Good {
-            behind: _,
-            order: _,
-            problem: _,
-        } => Bar::BadState,
+    match card::check_deck(deck) {
+        Ok(_) => Bar::BadState,
+        Err(fault) => Bar::BadDeck(fault),
     }
 }
 
@@ -70,16 +67,13 @@ pub fn l1_load(
         (load_called state.old (load_call drum.old marks.old deck.now state.old traced))
         drum.new marks.new state.new result }
 {
-    if !is_state(state) {
-        let bar = why_barred(drum, marks, deck);
-        return loading_told(Loading::NotLoaded(bar));
-    }
-    let before = state_in(state);
-    let x = machine::load(drum, marks, deck, before, is_on(traced));
-    let after = x.state;
-    put_state(state, after);
-    let loading = x.loading;
-    loading_told(loading)
+    let Ok(row) = <[u64; 9]>::try_from(&*state) else {
+        let refused: Loading = Err(why_barred(drum, marks, deck));
+        return Place::from(refused);
+    };
+    let x = machine::load(drum, marks, deck, State::from(row), is_on(traced));
+    state.copy_from_slice(&<[u64; 9]>::from(x.state));
+    Place::from(x.loading)
 }
 
 // A run of orders up to a budget.
@@ -96,28 +90,32 @@ pub fn l1_run(
         (run_called state.old (run_call drum.old marks.old deck.now out.old state.old budget stop))
         drum.new marks.new out.new state.new result }
 {
-    if !is_state(state) {
-        let bar = why_barred(drum, marks, deck);
-        return ending_told(Ending::NotRun(bar), 0, 0);
-    }
-    let before = state_in(state);
+    let Ok(numbers) = <[u64; 9]>::try_from(&*state) else {
+        return ending_told(Err(why_barred(drum, marks, deck)), 0, 0);
+    };
     let switches = Switches { stop: is_on(stop) };
-    let x = machine::run(drum, marks, out, deck, before, budget, switches);
-    let after = x.state;
-    put_state(state, after);
-    let ending = x.ending;
-    ending_told(ending, x.count, x.written)
+    let x = machine::run(
+        drum,
+        marks,
+        out,
+        deck,
+        State::from(numbers),
+        budget,
+        switches,
+    );
+    state.copy_from_slice(&<[u64; 9]>::from(x.state));
+    ending_told(x.ending, x.count, x.written)
 }
 
 // What is told of a deck that was to be made.
-fn making_told(x: Making) -> Made
-    ensures { result ≡ making_told x }
-{
-    let number = stops::making_number(x);
-    let written = stops::making_written(x);
-    Made {
-        number,
-        written: written as u64,
+impl From<Making> for Made {
+    ghost from_gives = { λ x told. told ≡ making_told x };
+
+    fn from(x: Making) -> Made {
+        Made {
+            number: Told::from(x).number,
+            written: making_written(x) as u64,
+        }
     }
 }
 
@@ -125,5 +123,5 @@ fn making_told(x: Making) -> Made
 pub fn l1_make(drum: &[u64], marks: &[u8], out: &mut [u8], first: u64, problem: u64) -> Made
     ensures { MakeTold (made (make_call drum.now marks.now out.old first problem)) out.new result }
 {
-    making_told(making::make(drum, marks, out, first, problem))
+    Made::from(making::make(drum, marks, out, first, problem))
 }

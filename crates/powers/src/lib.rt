@@ -31,5 +31,5 @@ const POWERS: [u64; 20] = [
 pub fn power(k: usize) -> u64
     ensures { result ≡ power_of k }
 {
-    if k < 20 { POWERS[k] } else { 0 }
+    POWERS.get(k).copied().unwrap_or(0)
 }

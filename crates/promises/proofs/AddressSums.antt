@@ -1,5 +1,7 @@
 -- Why sums of addresses do what is said of them, and why a run whose sums stay within their addresses is the same by either rule: the two rules
 -- differ in no other order, and in none of these where the address and C stay within 000 to 999. Assumes nothing.
+use Rattle.std.proofs.Common.{Err, None, Ok, Some}
+use Rattle.std.proofs.lemmas.Option.{some_pair_parts}
 use Prim.Native.Nat.{ℕ, zero, suc, ◌+◌, ◌-◌, ◌≤◌, ◌<◌}
 use mathlib.Core.Path.{◌≡◌, refl, sym, ap, subst, ◌∙◌}
 use mathlib.Core.Logic.{◌⊎◌, inl, inr}
@@ -18,28 +20,19 @@ use Rattle.rules.specs.Codes.{codes, lookup, code_in, pch_code, noop_code, check
 use Rattle.rules.specs.Machine.{Machine, Requests, present, without_loss_stops, without_carries, Inputs, Answer, is_traced, undone}
 use Rattle.rules.specs.Orders.{new_address, wrapped, shifted, carried, changed_word, changed, gone, punched, read, performed}
 use Rattle.rules.specs.Running.{allowed, code_done, step, Course, run_from, RunResult, begun, inputs_by, ran_as}
+use Rattle.rules.specs.Answers.{Cell, Judged, Outcome, Reckoned}
 use Rattle.rules.specs.declared.Address.{Address}
 use Rattle.rules.specs.declared.Address.TheVariants.{OfA, OfB, OfC}
 use Rattle.rules.specs.declared.Changing.{Changing}
 use Rattle.rules.specs.declared.Changing.TheVariants.{SetTo, AddTo, SubFrom}
-use Rattle.rules.specs.declared.Cell.{Cell}
-use Rattle.rules.specs.declared.Cell.TheVariants.{Foreign, Owned}
 use Rattle.rules.specs.declared.Switches.{Switches}
 use Rattle.rules.specs.declared.Refusal.TheVariants.{BadAddress, Unmarked}
-use Rattle.rules.specs.declared.Reckoned.{Reckoned}
-use Rattle.rules.specs.declared.Reckoned.TheVariants.{Result, Refused}
-use Rattle.rules.specs.declared.Built.TheVariants.{As}
 use Rattle.rules.specs.declared.Class.{Class}
 use Rattle.rules.specs.declared.Class.TheVariants.{Free, Changed}
 use Rattle.rules.specs.declared.Operation.{Operation}
 use Rattle.rules.specs.declared.Operation.TheVariants.{Reckon, Move, Go, Loop, Change, Read, Pch, Trace, MoveBlock, Compare}
 use Rattle.rules.specs.declared.Going.{Going}
 use Rattle.rules.specs.declared.Going.TheVariants.{UncStop, CondStop, TrSgn, TrExp, Tr, TrSubr, Noop}
-use Rattle.rules.specs.declared.Judged.{Judged}
-use Rattle.rules.specs.declared.Judged.TheVariants.{Fits, Fails}
-use Rattle.rules.specs.declared.Outcome.{Outcome}
-use Rattle.rules.specs.declared.Outcome.TheVariants.{Undone}
-use Rattle.rules.specs.declared.Ending.TheVariants.{Ran}
 use Rattle.rules.proofs.Tests.{false_true}
 use Rattle.rules.proofs.Steps.{inputs_with, Performs, of_step}
 use Rattle.rules.proofs.RoomRuns.{run_on, run_ends, count_within}
@@ -52,7 +45,7 @@ use Rattle.promises.proofs.LossStops.{on_run_as_before}
 -- ---- one order
 
 -- a cell that is marked is one of the cells
-marked_within : (v : List Cell) (b y : ℕ) → cell_at v b ≡ Owned y → b < length v
+marked_within : (v : List Cell) (b y : ℕ) → cell_at v b ≡ Some y → b < length v
 marked_within [] b y e = let z : ◌≡◌ {A = ℕ} 0 1 = cc in let w : ⊥ = omega arith in absurd w
 marked_within (x ∷ v) zero y e = omega arith
 marked_within (x ∷ v) (suc b) y e = omega (arith, marked_within v b y e)
@@ -63,17 +56,17 @@ new_digits y d l = omega arith
 old_sign : (y d : ℕ) → d ≤ 9999999999 → sign_in (with_digits y d) ≡ sign_in y
 old_sign y d l = omega arith
 
-module _ (u : Machine) (b y d : ℕ) (e : cell_at u.cells b ≡ Owned y) (l : d ≤ 9999999999) where
-  redone : Redone (changed u b (Result (with_digits y d))) u b y d
+module _ (u : Machine) (b y d : ℕ) (e : cell_at u.cells b ≡ Some y) (l : d ≤ 9999999999) where
+  redone : Redone (changed u b (Ok (with_digits y d))) u b y d
   redone =
       record {
         goes_on = refl;
         word = with_digits y d;
-        cell = get_or-set_same u.cells b (Owned (with_digits y d)) Foreign (marked_within u.cells b y e);
+        cell = get_or-set_same u.cells b (Some (with_digits y d)) None (marked_within u.cells b y e);
         digits = new_digits y d l;
         sign = old_sign y d l;
-        others = λ a f. get_or-set_other u.cells b a (Owned (with_digits y d)) Foreign f;
-        long = length-set u.cells b (Owned (with_digits y d));
+        others = λ a f. get_or-set_other u.cells b a (Some (with_digits y d)) None f;
+        long = length-set u.cells b (Some (with_digits y d));
         sent = refl;
         state = refl;
       }
@@ -82,13 +75,13 @@ sum_code : (w code : ℕ) → first_digit w ≡ 0 → a_in w ≡ code → code_i
 unfolding code_in
 sum_code w code e f = rw (eq-eqb (first_digit w) 0 e) f
 
-add_row : (k : Address) → lookup (add_code k) codes ≡ As (Change AddTo k) Changed
+add_row : (k : Address) → lookup (add_code k) codes ≡ Some (Change AddTo k, Changed)
 unfolding lookup codes
 add_row OfA = refl
 add_row OfB = refl
 add_row OfC = refl
 
-sub_row : (k : Address) → lookup (sub_code k) codes ≡ As (Change SubFrom k) Changed
+sub_row : (k : Address) → lookup (sub_code k) codes ≡ Some (Change SubFrom k, Changed)
 unfolding lookup codes
 sub_row OfA = refl
 sub_row OfB = refl
@@ -112,18 +105,18 @@ module _ (i : Inputs) (carry : i.requests.sums_carry ≡ true) (u : Machine) (k 
   unfolding checked
   sum_zero e = rw e
 
-  sum_foreign : 1 ≤ b → cell_at u.cells b ≡ Foreign → judged_sum ≡ undone Unmarked u
+  sum_foreign : 1 ≤ b → cell_at u.cells b ≡ None → judged_sum ≡ undone Unmarked u
   unfolding checked
   sum_foreign l e = rw (le-leb 1 b l, e)
 
-  sum_owned : 1 ≤ b → (y : ℕ) → cell_at u.cells b ≡ Owned y → judged_sum ≡ changed u b (carried k x y c)
+  sum_owned : 1 ≤ b → (y : ℕ) → cell_at u.cells b ≡ Some y → judged_sum ≡ changed u b (carried k x y c)
   unfolding checked performed
   sum_owned l y e = rw (le-leb 1 b l, ap is_owned e, carry) (ap (λ (z : Cell). changed u b (carried k x (shown z) c)) e)
 
   -- where the change is one of the ten digits, if they hold it
   sums : (Held : ℕ → Type 0) (sum : ℕ → ℕ) → ((d : ℕ) → d ≤ 9999999999 → Held d → sum d ≤ 9999999999)
-      → ((y : ℕ) → (Held (digits_in y) → ⊥) → carried k x y c ≡ Refused BadAddress)
-      → ((y : ℕ) → Held (digits_in y) → carried k x y c ≡ Result (with_digits y (sum (digits_in y))))
+      → ((y : ℕ) → (Held (digits_in y) → ⊥) → carried k x y c ≡ Err BadAddress)
+      → ((y : ℕ) → Held (digits_in y) → carried k x y c ≡ Ok (with_digits y (sum (digits_in y))))
       → (z : Answer) → z ≡ judged_sum → Sums z u b Held sum
   sums Held sum small p q z e =
       record {
@@ -180,13 +173,13 @@ taken_fits OfC w c l = omega arith
 
 same_word : (k : Changing) (x : Address) (w c : ℕ) → Within k (address_in x w) c → carried k x w c ≡ wrapped k x w c
 same_word SetTo x w c h = refl
-same_word AddTo x w c h = held_is (digits_in w + shifted x c) 9999999999 _ _ (added_fits x w c h) ∙ ap Result (by_address x h)
+same_word AddTo x w c h = held_is (digits_in w + shifted x c) 9999999999 _ _ (added_fits x w c h) ∙ ap Ok (by_address x h)
   where
     by_address : (x : Address) → address_in x w + c ≤ 999 → with_digits w (digits_in w + shifted x c) ≡ with_address x w (new_address AddTo (address_in x w) c)
     by_address OfA l = omega arith
     by_address OfB l = omega arith
     by_address OfC l = omega arith
-same_word SubFrom x w c h = held_is (shifted x c) (digits_in w) _ _ (taken_fits x w c h) ∙ ap Result (by_address x h)
+same_word SubFrom x w c h = held_is (shifted x c) (digits_in w) _ _ (taken_fits x w c h) ∙ ap Ok (by_address x h)
   where
     by_address : (x : Address) → c ≤ address_in x w → with_digits w (digits_in w - shifted x c) ≡ with_address x w (new_address SubFrom (address_in x w) c)
     by_address OfA l = omega arith
@@ -200,16 +193,16 @@ either_rule false true k x w c h = sym (same_word k x w c h)
 either_rule false false k x w c h = refl
 
 -- an address change is no PCH that is done as NOOP
-noop_row : lookup noop_code codes ≡ As (Go Noop) Free
+noop_row : lookup noop_code codes ≡ Some (Go Noop, Free)
 unfolding lookup codes
 noop_row = refl
 
-code_is : (t : Bool) (w : ℕ) (k : Changing) (x : Address) (l : Class) → lookup (code_done t w) codes ≡ As (Change k x) l → lookup (code_in w) codes ≡ As (Change k x) l
+code_is : (t : Bool) (w : ℕ) (k : Changing) (x : Address) (l : Class) → lookup (code_done t w) codes ≡ Some (Change k x, l) → lookup (code_in w) codes ≡ Some (Change k x, l)
 code_is t w k x l e = by_test (both t (eqb (code_in w) pch_code)) e
   where
-    by_test : (s : Bool) → lookup (pick s noop_code (code_in w)) codes ≡ As (Change k x) l → lookup (code_in w) codes ≡ As (Change k x) l
+    by_test : (s : Bool) → lookup (pick s noop_code (code_in w)) codes ≡ Some (Change k x, l) → lookup (code_in w) codes ≡ Some (Change k x, l)
     by_test true f =
-        let g : As (Go Noop) Free ≡ As (Change k x) l = sym noop_row ∙ f in
+        let g : Go Noop ≡ Change k x = (some_pair_parts (Go Noop) (Change k x) Free l (sym noop_row ∙ f)).0 in
         let z : ◌≡◌ {A = ℕ} 0 1 = cc in
         let v : ⊥ = omega arith in
         absurd v
@@ -235,8 +228,8 @@ module _ (i : Inputs) (s t : Bool) (Came : Outcome → Type 0) where
     gone_same u Noop b c = refl
 
     read_same : (u : Machine) (j : Judged) → read (by t) u j ≡ read (by s) u j
-    read_same u (Fits end) = refl
-    read_same u (Fails r) = refl
+    read_same u (Ok end) = refl
+    read_same u (Err r) = refl
 
     performed_same : (m u : Machine) (w : ℕ) (o : Operation) → Performs m u w o
         → (Came (performed (by s) u o (a_in w) (b_in w) (c_in w)).outcome → StaysWithin m)
@@ -308,9 +301,9 @@ came_wrapped u b k x w c = refl
 
 -- by the rule that carries an address change is done, or refused with 20
 abbrev DoneOrPast : Outcome → Type 0
-DoneOrPast o = (may_go_on o ≡ true) ⊎ (o ≡ Undone BadAddress)
+DoneOrPast o = (may_go_on o ≡ true) ⊎ (o ≡ Err BadAddress)
 
-if_held : (u : Machine) (b : ℕ) (t : Bool) (w : ℕ) → DoneOrPast (changed u b (pick t (Result w) (Refused BadAddress))).outcome
+if_held : (u : Machine) (b : ℕ) (t : Bool) (w : ℕ) → DoneOrPast (changed u b (pick t (Ok w) (Err BadAddress))).outcome
 if_held u b true w = inl refl
 if_held u b false w = inr refl
 
@@ -342,14 +335,14 @@ unfolding ran_as
 carries_as_wraps q c =
     of_runs
     (λ (r : Requests → RunResult).
-    ((n : ℕ) → n < (r q).count → StaysWithin (behind q c n)) → ((r q).ending ≡ Ran (Undone BadAddress) → StaysWithin (behind q c (r q).count)) → r q ≡ r (without_carries q))
+    ((n : ℕ) → n < (r q).count → StaysWithin (behind q c n)) → ((r q).ending ≡ Ok (Err BadAddress) → StaysWithin (behind q c (r q).count)) → r q ≡ r (without_carries q))
     c (λ b h f. refl)
     (λ e h f. ap (ran_as c)
     (sym
     (run_same (inputs_by q c) q.sums_carry false DoneOrPast (came_by q.sums_carry) past_undone c.budget (begun c) 0 (λ d l. h d (omega (arith, l)))
-    (λ o u p g d l. subst (λ (n : ℕ). StaysWithin (behind q c n)) (sym (omega (arith, l))) (f (ap Ran (p ∙ ended o u g)))))))
+    (λ o u p g d l. subst (λ (n : ℕ). StaysWithin (behind q c n)) (sym (omega (arith, l))) (f (ap Ok (p ∙ ended o u g)))))))
   where
-    ended : (o : Outcome) → may_go_on o ≡ false → DoneOrPast o → o ≡ Undone BadAddress
+    ended : (o : Outcome) → may_go_on o ≡ false → DoneOrPast o → o ≡ Err BadAddress
     ended o u (inl g) = false_true (sym u ∙ g)
     ended o u (inr g) = g
 

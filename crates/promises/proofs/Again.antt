@@ -1,30 +1,27 @@
 -- Why the next run goes on as it should: what a run leaves passes the entry checks again, and the machine that is seen in it is the one
 -- that the run's last order left. Assumes nothing.
+use Rattle.std.proofs.Common.{Ok}
 use Prim.Native.Nat.{ℕ, ◌+◌}
 use mathlib.Core.Path.{◌≡◌, refl, sym, ap, subst, ◌∙◌}
 use mathlib.Core.List.{List, []}
 use Rattle.rules.specs.Numbers.{completed, tries_again}
 use Rattle.rules.specs.Machine.{Machine}
 use Rattle.rules.specs.Running.{Course, RunCall, RunResult, begun, inputs, ran_as, ran}
-use Rattle.rules.specs.declared.Cell.{Cell}
+use Rattle.rules.specs.Answers.{Cell, Outcome}
 use Rattle.rules.specs.declared.Switches.{Switches}
-use Rattle.rules.specs.declared.Outcome.{Outcome}
-use Rattle.rules.specs.declared.Outcome.TheVariants.{GoesOn}
-use Rattle.rules.specs.declared.Ending.TheVariants.{Ran}
+use Rattle.rules.specs.declared.Done.TheVariants.{GoesOn}
 use Rattle.rules.proofs.Tests.{false_true}
 use Rattle.promises.specs.Undone.{AsBefore}
 use Rattle.promises.specs.Counting.{Comes, used_up, ended}
 use Rattle.promises.specs.Again.{following, again, MayGoOnLater, MetAgain, SameOrderNextRun}
+use Rattle.rules.proofs.Sides.{same_ok}
 use Rattle.promises.proofs.Undone.{same_order_again}
 use Rattle.promises.proofs.Counting.{count_is_steps}
 use Rattle.rules.proofs.Entered.{Entered, course, ran_course}
 use Rattle.promises.proofs.Entry.{entered, left_view, again_entered}
 
-same_outcome : {o p : Outcome} → Ran o ≡ Ran p → o ≡ p
-same_outcome e = cc
-
 -- how a run that was entered ended
-pub ran_outcome : (c : RunCall) → Entered c → (ran c).ending ≡ Ran (course c).outcome
+pub ran_outcome : (c : RunCall) → Entered c → (ran c).ending ≡ Ok (course c).outcome
 unfolding ran_as
 ran_outcome c h = ap (λ (x : RunResult). x.ending) (ran_course c h)
 
@@ -65,10 +62,10 @@ same_order_next_run c o e t out budget switches = by_course (course c) refl (cou
 
     by_course : (x : Course) → course c ≡ x → Comes (inputs c) c.budget (begun c) x → MetAgain c o (again c out budget switches)
     by_course x q (used_up s g n) =
-        let z : o ≡ GoesOn = same_outcome (sym e ∙ ran_outcome c h) ∙ ap (λ (y : Course). y.outcome) q ∙ g in
+        let z : o ≡ (Ok GoesOn) = same_ok (sym e ∙ ran_outcome c h) ∙ ap (λ (y : Course). y.outcome) q ∙ g in
         false_true (sym (ap tries_again z) ∙ t)
     by_course x q (ended k u l s g m f n) =
-        let z : o ≡ x.outcome = same_outcome (sym e ∙ ran_outcome c h) ∙ ap (λ (y : Course). y.outcome) q in
+        let z : o ≡ x.outcome = same_ok (sym e ∙ ran_outcome c h) ∙ ap (λ (y : Course). y.outcome) q in
         record {
           steps = k;
           front = u;

@@ -1,5 +1,6 @@
 -- Runs in one room after another, beside one run in a room that does not become full: in each of the rooms the one run goes on from where
 -- the room before was left. Assumes nothing.
+use Rattle.std.proofs.Common.{Err, None, Ok, Some}
 use Prim.Native.Nat.{ℕ, suc, ◌+◌, ◌-◌}
 use mathlib.Core.Path.{◌≡◌, refl, sym, ap, ap₂, subst, ◌∙◌}
 use mathlib.Core.List.{List, [], ◌∷◌, ◌++◌, append_assoc, append-nil}
@@ -11,11 +12,8 @@ use lib.Seq.{take-append_seam}
 use Rattle.rules.specs.Drum.{view, mark_of, marks_of, number_over, overlay}
 use Rattle.rules.specs.Machine.{Machine}
 use Rattle.rules.specs.Running.{Course, run_from, RunCall, RunResult, over, begun, inputs, ran_as, ran}
-use Rattle.rules.specs.declared.Cell.{Cell}
-use Rattle.rules.specs.declared.Cell.TheVariants.{Foreign, Owned}
+use Rattle.rules.specs.Answers.{Cell}
 use Rattle.rules.specs.declared.Refusal.TheVariants.{NoRoom}
-use Rattle.rules.specs.declared.Outcome.TheVariants.{Undone}
-use Rattle.rules.specs.declared.Ending.TheVariants.{Ran}
 use Rattle.rules.proofs.Views.{Grows}
 use Rattle.rules.proofs.Growth.{run_grows}
 use Rattle.rules.proofs.Tails.{Tail, good_tail}
@@ -25,20 +23,21 @@ use Rattle.rules.proofs.Rooms.{in_room, sent_before}
 use Rattle.rules.proofs.RoomRuns.{NotFull, course_behind, count_within, run_alike, run_left}
 use Rattle.promises.specs.Again.{again}
 use Rattle.promises.specs.Rooms.{is_full, Came, cards_of, came_to, joined, room_after_room}
+use Rattle.rules.proofs.Sides.{same_ok}
 use Rattle.rules.proofs.Entered.{Entered, course, ran_course, begun_sound, left_sound}
 use Rattle.promises.proofs.Entry.{again_entered}
 use Rattle.promises.proofs.Again.{ran_outcome, begun_behind}
-use Rattle.promises.proofs.Barred.{full_is, same_outcome, not_full}
+use Rattle.promises.proofs.Barred.{full_is, not_full}
 
 -- ---- lists
 
 number_kept : (c : Cell) (d : ℕ) → mark_of c ≡ 0 → number_over c d ≡ d
-number_kept Foreign d e = refl
-number_kept (Owned w) d e = let z : ⊥ = omega arith in absurd z
+number_kept None d e = refl
+number_kept (Some w) d e = let z : ⊥ = omega arith in absurd z
 
 number_twice : (c c' : Cell) (d : ℕ) → (mark_of c' ≡ 0 → mark_of c ≡ 0) → number_over c' (number_over c d) ≡ number_over c' d
-number_twice c Foreign d g = number_kept c d (g refl)
-number_twice c (Owned w) d g = refl
+number_twice c None d g = number_kept c d (g refl)
+number_twice c (Some w) d g = refl
 
 -- cells laid over the drum, and then others that have grown from them, are these others laid over
 overlay_twice : (ds : List ℕ) (v v' : List Cell) → length v ≡ length v' → Grows v v' → overlay (overlay ds v) v' ≡ overlay ds v'
@@ -53,7 +52,7 @@ overlay_twice (d ∷ ds) (c ∷ v) (c' ∷ v') e g =
 -- ---- what runs came to, beside the course of one run with p sent and n orders completed before
 
 pub record Is (p : List ℕ) (n : ℕ) (drum : List ℕ) (z : Course) (w : Came) : Type 0 where
-  pub ending_is : w.ending ≡ Ran z.outcome
+  pub ending_is : w.ending ≡ Ok z.outcome
   pub count_is : n + w.count ≡ z.count
   pub cards_are : p ++ w.cards ≡ z.machine.sent
   pub state_is : w.state ≡ z.machine.state
@@ -93,8 +92,8 @@ module _ (c : RunCall) (h : Entered c) (g : is_full (ran c).ending ≡ true) (ou
   abbrev pub next : RunCall
   next = again c out (c.budget - (ran c).count) c.switches
 
-  pub course_full : (course c).outcome ≡ Undone NoRoom
-  course_full = same_outcome (sym (ran_outcome c h) ∙ full_is (ran c).ending g)
+  pub course_full : (course c).outcome ≡ Err NoRoom
+  course_full = same_ok (sym (ran_outcome c h) ∙ full_is (ran c).ending g)
 
   pub count_is_course : (ran c).count ≡ (course c).count
   unfolding ran_as

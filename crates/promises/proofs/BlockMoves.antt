@@ -1,5 +1,6 @@
 -- Why block moves and address tests do what is said of them: such an order is found in the table by its first digit, its checks go by its class,
 -- and what it then does is what the rules say. Assumes nothing.
+use Rattle.std.proofs.Common.{None, Ok, Some}
 use Prim.Native.Nat.{ℕ, ◌+◌, ◌-◌, ◌*◌, ◌≤◌, ◌<◌}
 use mathlib.Core.Path.{◌≡◌, refl, sym, ap, subst, ◌∙◌}
 use mathlib.Core.Bool.{Bool, true, false}
@@ -13,13 +14,10 @@ use Rattle.rules.specs.Codes.{codes, lookup, code_in, pch_code, and_then, unless
 use Rattle.rules.specs.Machine.{Machine, Inputs, Answer, going_to, done, undone}
 use Rattle.rules.specs.Orders.{block_moved, performed}
 use Rattle.rules.specs.Running.{allowed, step}
+use Rattle.rules.specs.Answers.{Cell}
 use Rattle.rules.specs.declared.Address.{Address}
 use Rattle.rules.specs.declared.Address.TheVariants.{OfA, OfB, OfC}
-use Rattle.rules.specs.declared.Cell.{Cell}
-use Rattle.rules.specs.declared.Cell.TheVariants.{Foreign, Owned}
 use Rattle.rules.specs.declared.Refusal.TheVariants.{BadAddress, Unmarked}
-use Rattle.rules.specs.declared.Checked.TheVariants.{Passes}
-use Rattle.rules.specs.declared.Built.TheVariants.{As}
 use Rattle.rules.specs.declared.Class.TheVariants.{BlockMoved, Compared}
 use Rattle.rules.specs.declared.Operation.TheVariants.{MoveBlock, Compare}
 use Rattle.rules.proofs.Tests.{false_true}
@@ -34,7 +32,7 @@ block_code : (w : ℕ) → first_digit w ≡ 9 → 1 ≤ a_in w → code_in w �
 unfolding code_in
 block_code w e l = simp (ne_eqb (first_digit w) 0 (λ z. omega (arith, e, z)), eq-eqb (first_digit w) 9 e, lt-ltb 0 (a_in w) l)
 
-move_row : lookup 9001 codes ≡ As MoveBlock BlockMoved
+move_row : lookup 9001 codes ≡ Some (MoveBlock, BlockMoved)
 unfolding lookup codes
 move_row = refl
 
@@ -53,25 +51,25 @@ module _ (i : Inputs) (u : Machine) (n b c : ℕ) where
   move_outside f = by_blocks (block_lies b n) refl (block_lies c n) refl
     where
       by_blocks : (s : Bool) → block_lies b n ≡ s → (t : Bool) → block_lies c n ≡ t
-          → allowed i u MoveBlock n b c (and_then (unless (both s t) BadAddress) (and_then (unless (owned_from u.cells b n) Unmarked) Passes)) ≡ undone BadAddress u
+          → allowed i u MoveBlock n b c (and_then (unless (both s t) BadAddress) (and_then (unless (owned_from u.cells b n) Unmarked) (Ok tt))) ≡ undone BadAddress u
       by_blocks true e true g = absurd (f (is_lies b n e) (is_lies c n g))
       by_blocks true e false g = refl
       by_blocks false e t g = refl
 
-  move_foreign : Lies b n → Lies c n → (k : ℕ) → k < n → cell_at u.cells (b + k) ≡ Foreign → judged_move ≡ undone Unmarked u
+  move_foreign : Lies b n → Lies c n → (k : ℕ) → k < n → cell_at u.cells (b + k) ≡ None → judged_move ≡ undone Unmarked u
   unfolding checked
   move_foreign p q k l e = rw (lies_is b n p, lies_is c n q) (by_marks (owned_from u.cells b n) refl)
     where
-      by_marks : (t : Bool) → owned_from u.cells b n ≡ t → allowed i u MoveBlock n b c (and_then (unless t Unmarked) Passes) ≡ undone Unmarked u
+      by_marks : (t : Bool) → owned_from u.cells b n ≡ t → allowed i u MoveBlock n b c (and_then (unless t Unmarked) (Ok tt)) ≡ undone Unmarked u
       by_marks true g = false_true (sym (ap is_owned e) ∙ owned_each u.cells b n k g l)
       by_marks false g = refl
 
-  move_owned : Lies b n → Lies c n → ((k : ℕ) → k < n → cell_at u.cells (b + k) ≡ Owned (word_at u.cells (b + k)))
+  move_owned : Lies b n → Lies c n → ((k : ℕ) → k < n → cell_at u.cells (b + k) ≡ Some (word_at u.cells (b + k)))
       → judged_move ≡ done (block_moved u n b c)
   unfolding checked performed
   move_owned p q f = rw (lies_is b n p, lies_is c n q, owned_all u.cells b n (λ k l. ap is_owned (f k l)))
 
-  moved : length u.cells ≡ 1000 → Lies c n → ((k : ℕ) → k < n → cell_at u.cells (b + k) ≡ Owned (word_at u.cells (b + k)))
+  moved : length u.cells ≡ 1000 → Lies c n → ((k : ℕ) → k < n → cell_at u.cells (b + k) ≡ Some (word_at u.cells (b + k)))
       → Moved (done (block_moved u n b c)) u n b c
   moved l q f =
       record {
@@ -115,7 +113,7 @@ test_code w k e =
     simp (ne_eqb (first_digit w) 0 (λ z. omega (arith, e, z, d.0)), ne_eqb (first_digit w) 9 (λ z. omega (arith, e, z, d.1)))
     (ap (λ (n : ℕ). 1000 * n) e)
 
-test_row : (k : Address) → lookup (1000 * digit_of k) codes ≡ As (Compare k) Compared
+test_row : (k : Address) → lookup (1000 * digit_of k) codes ≡ Some (Compare k, Compared)
 unfolding lookup codes
 test_row OfA = refl
 test_row OfB = refl
@@ -132,11 +130,11 @@ module _ (i : Inputs) (u : Machine) (k : Address) (a b c : ℕ) where
   unfolding checked
   test_zero e = rw e
 
-  test_foreign : 1 ≤ a → cell_at u.cells a ≡ Foreign → judged_test ≡ undone Unmarked u
+  test_foreign : 1 ≤ a → cell_at u.cells a ≡ None → judged_test ≡ undone Unmarked u
   unfolding checked
   test_foreign l e = rw (le-leb 1 a l, e)
 
-  test_owned : 1 ≤ a → (y : ℕ) → cell_at u.cells a ≡ Owned y
+  test_owned : 1 ≤ a → (y : ℕ) → cell_at u.cells a ≡ Some y
       → judged_test ≡ done (going_to u (pick (eqb (address_in k y) b) (u.state.location + 1) c))
   unfolding checked performed
   test_owned l y e =

@@ -1,5 +1,6 @@
 -- What each number of a refused deck says of its bytes: of any bytes one of the things that a number may say is right, and it is the one that is
 -- told. So too for a load and a run, and as before. Assumes nothing.
+use Rattle.std.proofs.Common.{Err, Ok}
 use Prim.Native.Nat.{ℕ, ◌≤◌}
 use mathlib.Core.Path.{◌≡◌, refl, sym, ap, subst, subst₂, ◌∙◌}
 use mathlib.Core.Logic.{◌↔◌, ◌⊎◌, inl, inr, ⊎_elim}
@@ -10,11 +11,10 @@ use Rattle.rules.specs.Numbers.{deck_number, deck_place, check_number, check_pla
 use Rattle.rules.specs.Loads.{LoadCall, loaded_from, loaded}
 use Rattle.rules.specs.Machine.{present}
 use Rattle.rules.specs.Running.{RunCall, ran_on, ran_by}
+use Rattle.rules.specs.Answers.{Deck}
 use Rattle.rules.specs.declared.Fault.TheVariants.{UnknownKind, SecondFirst, CutShort, BadByte, BadPlace}
 use Rattle.rules.specs.declared.DeckFault.{DeckFault}
 use Rattle.rules.specs.declared.DeckFault.TheVariants.{TooLong, At, NoFirst}
-use Rattle.rules.specs.declared.Deck.{Deck}
-use Rattle.rules.specs.declared.Deck.TheVariants.{Good, Faulty}
 use Rattle.promises.specs.DeckFaults.{byte_at, UnknownKindAt, CutShortAt, BadByteAt, OutOfRangeAt, SecondFirstAt, NoFirstIn, TooLongAt, GoodDeck, Tells, NumbersSay, CallsTell, number_before, InThatCard, RefusedAsBefore}
 use Rattle.promises.proofs.CardFaults.{field_within}
 use Rattle.promises.proofs.DeckChecks.{told_unknown, told_cut, told_byte, told_place, told_second, told_none, told_long, told_good}
@@ -25,9 +25,9 @@ use Rattle.promises.proofs.DeckFound.{Says, says_good, says_long, says_unknown, 
 -- the number and the place, in the card where it was told before
 record Told (deck : List ℕ) (number place : ℕ) : Type 0 where
   tells : Tells deck number place
-  in_card : (f : DeckFault) → deck_of deck ≡ Faulty f → InThatCard deck f
+  in_card : (f : DeckFault) → deck_of deck ≡ Err f → InThatCard deck f
 
-fault_told : {deck : List ℕ} (f : DeckFault) → deck_of deck ≡ Faulty f → InThatCard deck f → Told deck (deck_number f) (deck_place f)
+fault_told : {deck : List ℕ} (f : DeckFault) → deck_of deck ≡ Err f → InThatCard deck f → Told deck (deck_number f) (deck_place f)
 fault_told {deck} f e c =
     record {
       tells = (ap check_number e, ap check_place e);
@@ -93,8 +93,8 @@ fault_number_lem (At p SecondFirst b) = inr (omega arith)
 fault_number_lem (NoFirst n) = inr (omega arith)
 
 no_other : (k : Deck) → (check_number k ≡ 0) ⊎ (check_number k ≡ 11) ⊎ ((13 ≤ check_number k) × (check_number k ≤ 18))
-no_other (Good behind order problem) = inl refl
-no_other (Faulty f) = inr (fault_number_lem f)
+no_other (Ok start) = inl refl
+no_other (Err f) = inr (fault_number_lem f)
 
 pub numbers_say : NumbersSay
 numbers_say =
@@ -115,14 +115,14 @@ numbers_say =
 of_load_lem : (c : LoadCall) (k : Deck) → deck_of c.deck ≡ k
     → Tells c.deck (loading_number (loaded_from c k).loading) (loading_place (loaded_from c k).loading)
 unfolding loaded_from
-of_load_lem c (Good behind order problem) e = (ap check_number e, ap check_place e)
-of_load_lem c (Faulty f) e = (ap check_number e, ap check_place e)
+of_load_lem c (Ok start) e = (ap check_number e, ap check_place e)
+of_load_lem c (Err f) e = (ap check_number e, ap check_place e)
 
 of_run_lem : (c : RunCall) (k : Deck) → deck_of c.deck ≡ k → (check_number k ≡ 0 → ⊥)
     → Tells c.deck (ending_number (ran_on present c k).ending) (ending_place (ran_on present c k).ending)
 unfolding ran_on
-of_run_lem c (Good behind order problem) e n = absurd (n refl)
-of_run_lem c (Faulty f) e n = (ap check_number e, ap check_place e)
+of_run_lem c (Ok start) e n = absurd (n refl)
+of_run_lem c (Err f) e n = (ap check_number e, ap check_place e)
 
 pub calls_tell : CallsTell
 unfolding loaded ran_by
@@ -135,8 +135,8 @@ calls_tell =
 -- ---- as before
 
 same_deck : (k : Deck) → (check_number k ≡ 0) ↔ (number_before k ≡ 0)
-same_deck (Good behind order problem) = (λ e. refl, λ e. refl)
-same_deck (Faulty f) = (λ e. ⊎_elim (λ n. omega arith) (λ n. omega arith) (fault_number_lem f), λ e. omega arith)
+same_deck (Ok start) = (λ e. refl, λ e. refl)
+same_deck (Err f) = (λ e. ⊎_elim (λ n. omega arith) (λ n. omega arith) (fault_number_lem f), λ e. omega arith)
 
 pub refused_as_before : RefusedAsBefore
 refused_as_before =

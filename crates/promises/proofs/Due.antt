@@ -1,5 +1,6 @@
 -- An order gives each answer exactly where it is due, if what it gives is due and nothing else is: for the refusals by the tests of the
 -- operands, and for all else because what is rounded once is told by its halves. Assumes nothing.
+use Rattle.std.proofs.Common.{Err, Ok}
 use Prim.Native.Nat.{ℕ, zero, suc, ◌+◌, ◌-◌, ◌*◌, ◌^◌, ◌≤◌, ◌<◌}
 use mathlib.Core.Path.{◌≡◌, refl, sym, ap, subst, ◌∙◌}
 use mathlib.Core.Logic.{◌⊎◌, inl, inr}
@@ -10,27 +11,26 @@ use native.Mathlib.Omega.{arith}
 use Rattle.rules.specs.Words.{pick, both, is_number, sign_in, leading_in, exponent_in}
 use Rattle.rules.specs.Rounding.{Settled, nought, value, outside, single, settled}
 use Rattle.rules.specs.Arithmetic.{word_of, of_numbers, of_number}
-use Rattle.rules.specs.declared.Reckoned.{Reckoned}
-use Rattle.rules.specs.declared.Reckoned.TheVariants.{Result, Refused}
+use Rattle.rules.specs.Answers.{Reckoned}
 use Rattle.rules.specs.declared.Refusal.TheVariants.{BadAddress, Unmarked, NoRoom, NotBuilt, NotNumber, ZeroDivisor, NegativeRoot, OutOfRange, Unfit, NoCard}
 use Rattle.promises.specs.Rounding.{Magnitude, RoundedTo, Number, Somewhere, Rounds}
 use Rattle.promises.specs.Reckoning.{Zero, IsRounded, WordDue, Beyond, Order, Taken, Due, Answers, Numbers}
 
 -- ---- an answer that is due is given exactly then, if no other is
 
-module _ (o : Order) (x : Reckoned) (due : Due o x) (number : Due o (Refused NotNumber) → x ≡ Refused NotNumber) (divisor : Due o (Refused ZeroDivisor) → x ≡ Refused ZeroDivisor) (root : Due o (Refused NegativeRoot) → x ≡ Refused NegativeRoot) (range : Due o (Refused OutOfRange) → x ≡ Refused OutOfRange) (word : (w : ℕ) → Due o (Result w) → x ≡ Result w) where
+module _ (o : Order) (x : Reckoned) (due : Due o x) (number : Due o (Err NotNumber) → x ≡ Err NotNumber) (divisor : Due o (Err ZeroDivisor) → x ≡ Err ZeroDivisor) (root : Due o (Err NegativeRoot) → x ≡ Err NegativeRoot) (range : Due o (Err OutOfRange) → x ≡ Err OutOfRange) (word : (w : ℕ) → Due o (Ok w) → x ≡ Ok w) where
   one_due : (q : Reckoned) → Due o q → x ≡ q
-  one_due (Result w) d = word w d
-  one_due (Refused NotNumber) d = number d
-  one_due (Refused ZeroDivisor) d = divisor d
-  one_due (Refused NegativeRoot) d = root d
-  one_due (Refused OutOfRange) d = range d
-  one_due (Refused BadAddress) d = absurd d
-  one_due (Refused Unmarked) d = absurd d
-  one_due (Refused NoRoom) d = absurd d
-  one_due (Refused NotBuilt) d = absurd d
-  one_due (Refused Unfit) d = absurd d
-  one_due (Refused NoCard) d = absurd d
+  one_due (Ok w) d = word w d
+  one_due (Err NotNumber) d = number d
+  one_due (Err ZeroDivisor) d = divisor d
+  one_due (Err NegativeRoot) d = root d
+  one_due (Err OutOfRange) d = range d
+  one_due (Err BadAddress) d = absurd d
+  one_due (Err Unmarked) d = absurd d
+  one_due (Err NoRoom) d = absurd d
+  one_due (Err NotBuilt) d = absurd d
+  one_due (Err Unfit) d = absurd d
+  one_due (Err NoCard) d = absurd d
 
   given : Answers o x
   given q = (λ i. subst (Due o) i due, one_due q)
@@ -47,22 +47,22 @@ parts w = omega arith
 
 module _ (o : Order) (h : ℕ) (r : Rounds single o.exact h) (t : Taken o) where
   -- whatever is due is what the halves settle
-  pub word_due : (w : ℕ) → WordDue o.sign o.exact w → word_of (settled single o.sign h) ≡ Result w
+  pub word_due : (w : ℕ) → WordDue o.sign o.exact w → word_of (settled single o.sign h) ≡ Ok w
   word_due zero d = ap word_of (r.none o.sign (d 1))
   word_due (suc k) d =
       let w : ℕ = suc k in
       let i : settled single o.sign h ≡ value o.sign (leading_in w) (exponent_in w + 100 - 100) =
       r.within o.sign (exponent_in w + 100) (leading_in w) d.rounded (omega arith) (omega arith) in
-      ap word_of i ∙ ap Result (omega (arith, d.sign, parts w))
+      ap word_of i ∙ ap Ok (omega (arith, d.sign, parts w))
 
-  beyond_due : Beyond o.exact → word_of (settled single o.sign h) ≡ Refused OutOfRange
+  beyond_due : Beyond o.exact → word_of (settled single o.sign h) ≡ Err OutOfRange
   beyond_due d = either (dec_le 100 d.place)
     where
-      high : Dec (200 ≤ d.place) → 100 ≤ d.place → word_of (settled single o.sign h) ≡ Refused OutOfRange
+      high : Dec (200 ≤ d.place) → 100 ≤ d.place → word_of (settled single o.sign h) ≡ Err OutOfRange
       high (yes l) g = ap word_of (r.over o.sign d.place d.digits d.rounded l)
       high (no l) g = absurd (d.outside g (lt_of_not-le l))
 
-      either : Dec (100 ≤ d.place) → word_of (settled single o.sign h) ≡ Refused OutOfRange
+      either : Dec (100 ≤ d.place) → word_of (settled single o.sign h) ≡ Err OutOfRange
       either (no l) = ap word_of (r.under o.sign d.place d.digits d.rounded (lt_of_not-le l))
       either (yes l) = high (dec_le 200 d.place) l
 
@@ -115,17 +115,17 @@ module _ (o : Order) (h : ℕ) (r : Rounds single o.exact h) (t : Taken o) where
 
 -- ---- what is refused
 
-pub refuses_words : (o : Order) → (o.numbers → ⊥) → Answers o (Refused NotNumber)
+pub refuses_words : (o : Order) → (o.numbers → ⊥) → Answers o (Err NotNumber)
 refuses_words o n =
-    given o (Refused NotNumber) n (λ d. refl) (λ d. absurd (n d.0)) (λ d. absurd (n d.0)) (λ d. absurd (n d.0.0)) (λ w d. absurd (n d.0.0))
+    given o (Err NotNumber) n (λ d. refl) (λ d. absurd (n d.0)) (λ d. absurd (n d.0)) (λ d. absurd (n d.0.0)) (λ w d. absurd (n d.0.0))
 
-pub refuses_zero : (o : Order) → o.numbers → o.zero_divisor → (o.negative_root → ⊥) → Answers o (Refused ZeroDivisor)
+pub refuses_zero : (o : Order) → o.numbers → o.zero_divisor → (o.negative_root → ⊥) → Answers o (Err ZeroDivisor)
 refuses_zero o n z p =
-    given o (Refused ZeroDivisor) (n, z) (λ d. absurd (d n)) (λ d. refl) (λ d. absurd (p d.1)) (λ d. absurd (d.0.1 z)) (λ w d. absurd (d.0.1 z))
+    given o (Err ZeroDivisor) (n, z) (λ d. absurd (d n)) (λ d. refl) (λ d. absurd (p d.1)) (λ d. absurd (d.0.1 z)) (λ w d. absurd (d.0.1 z))
 
-pub refuses_negative : (o : Order) → o.numbers → (o.zero_divisor → ⊥) → o.negative_root → Answers o (Refused NegativeRoot)
+pub refuses_negative : (o : Order) → o.numbers → (o.zero_divisor → ⊥) → o.negative_root → Answers o (Err NegativeRoot)
 refuses_negative o n z p =
-    given o (Refused NegativeRoot) (n, p) (λ d. absurd (d n)) (λ d. absurd (z d.1)) (λ d. refl) (λ d. absurd (d.0.2 p)) (λ w d. absurd (d.0.2 p))
+    given o (Err NegativeRoot) (n, p) (λ d. absurd (d n)) (λ d. absurd (z d.1)) (λ d. refl) (λ d. absurd (d.0.2 p)) (λ w d. absurd (d.0.2 p))
 
 no_test : true ≡ false → ⊥
 no_test y = let z : ◌≡◌ {A = ℕ} 0 1 = cc in omega arith
@@ -134,7 +134,7 @@ no_test y = let z : ◌≡◌ {A = ℕ} 0 1 = cc in omega arith
 pub of_two : (o : Order) (a b : ℕ) (x : Reckoned) → (o.numbers → Numbers a b) → (Numbers a b → Answers o x) → Answers o (of_numbers a b x)
 of_two o a b x to f = by_test (is_number a) refl (is_number b) refl
   where
-    by_test : (p : Bool) → is_number a ≡ p → (q : Bool) → is_number b ≡ q → Answers o (pick (both p q) x (Refused NotNumber))
+    by_test : (p : Bool) → is_number a ≡ p → (q : Bool) → is_number b ≡ q → Answers o (pick (both p q) x (Err NotNumber))
     by_test true i true j = f (i, j)
     by_test true i false j = refuses_words o (λ n. no_test (sym (to n).1 ∙ j))
     by_test false i q j = refuses_words o (λ n. no_test (sym (to n).0 ∙ i))
@@ -142,6 +142,6 @@ of_two o a b x to f = by_test (is_number a) refl (is_number b) refl
 pub of_one : (o : Order) (b : ℕ) (x : Reckoned) → (o.numbers → is_number b ≡ true) → (is_number b ≡ true → Answers o x) → Answers o (of_number b x)
 of_one o b x to f = by_test (is_number b) refl
   where
-    by_test : (q : Bool) → is_number b ≡ q → Answers o (pick q x (Refused NotNumber))
+    by_test : (q : Bool) → is_number b ≡ q → Answers o (pick q x (Err NotNumber))
     by_test true j = f j
     by_test false j = refuses_words o (λ n. no_test (sym (to n) ∙ j))

@@ -1,51 +1,43 @@
 -- A call of run that passes its entry checks, and the one behind it: the cells and the state that a run leaves pass them again.
 -- Assumes nothing.
+use Rattle.std.proofs.Common.{Err, Ok}
 use Prim.Native.Nat.{ℕ, ◌≤◌}
 use mathlib.Core.Path.{◌≡◌, refl, sym, subst, ◌∙◌}
 use mathlib.Core.List.{List}
 use mathlib.Core.Bool.{Bool, true, false}
-use native.Mathlib.Omega.{arith}
 use lib.ListN.{length}
 use borrow.Author.Tests.{eq-eqb}
 use Rattle.rules.specs.Drum.{view, marks_of, overlay, drum_fits}
 use Rattle.rules.specs.Decks.{deck_of}
 use Rattle.rules.specs.Machine.{present}
 use Rattle.rules.specs.Running.{RunCall, RunResult, state_fits, ran_as, ran_on, ran_by, ran}
-use Rattle.rules.specs.declared.Cell.{Cell}
+use Rattle.rules.specs.Answers.{Cell, Deck, Outcome}
 use Rattle.rules.specs.declared.Switches.{Switches}
-use Rattle.rules.specs.declared.Outcome.{Outcome}
-use Rattle.rules.specs.declared.Deck.{Deck}
-use Rattle.rules.specs.declared.Deck.TheVariants.{Good, Faulty}
-use Rattle.rules.specs.declared.Bar.{Bar}
-use Rattle.rules.specs.declared.Bar.TheVariants.{BadDrum, BadDeck, BadState}
-use Rattle.rules.specs.declared.Ending.TheVariants.{Ran, NotRun}
 use Rattle.rules.proofs.Views.{length-overlay, length_marks, view_again}
 use Rattle.rules.proofs.Sound.{marks_of_fit, words_fit_lem, steady_fits}
 use Rattle.rules.proofs.Entered.{Entered, course, ran_course, lent, left_sound}
 use Rattle.promises.specs.Again.{following}
+use Rattle.rules.proofs.Sides.{err_no_ok}
 
 -- ---- what the entry checks found
 
-differs : {A : Type 0} (o : Outcome) (b : Bar) → NotRun b ≡ Ran o → A
-differs o b e = let z : ◌≡◌ {A = ℕ} 0 1 = cc in let y : ⊥ = omega arith in absurd y
-
 module _ (c : RunCall) (o : Outcome) (fits : drum_fits (length c.drum) c.marks (view c.drum c.marks) ≡ true) where
-  entered_on : (k : Deck) → deck_of c.deck ≡ k → (ran_on present c k).ending ≡ Ran o → Entered c
+  entered_on : (k : Deck) → deck_of c.deck ≡ k → (ran_on present c k).ending ≡ Ok o → Entered c
   unfolding ran_on
-  entered_on (Faulty f) q e = differs o (BadDeck f) e
-  entered_on (Good first order problem) q e = by_state (state_fits (view c.drum c.marks) c.deck first c.state c.budget) refl
+  entered_on (Err f) q e = err_no_ok e
+  entered_on (Ok start) q e = by_state (state_fits (view c.drum c.marks) c.deck start.behind c.state c.budget) refl
     where
-      by_state : (t : Bool) → state_fits (view c.drum c.marks) c.deck first c.state c.budget ≡ t → Entered c
-      by_state true f = record { drum_fits_lem = fits; first = first; order = order; problem = problem; deck_good = q; state_fits_lem = f }
-      by_state false f = differs o BadState (rw f at e)
+      by_state : (t : Bool) → state_fits (view c.drum c.marks) c.deck start.behind c.state c.budget ≡ t → Entered c
+      by_state true f = record { drum_fits_lem = fits; first = start.behind; order = start.order; problem = start.problem; deck_good = q; state_fits_lem = f }
+      by_state false f = err_no_ok (rw f at e)
 
-pub entered : (c : RunCall) (o : Outcome) → (ran c).ending ≡ Ran o → Entered c
+pub entered : (c : RunCall) (o : Outcome) → (ran c).ending ≡ Ok o → Entered c
 unfolding ran_by
 entered c o e = by_fit (drum_fits (length c.drum) c.marks (view c.drum c.marks)) refl
   where
     by_fit : (t : Bool) → drum_fits (length c.drum) c.marks (view c.drum c.marks) ≡ t → Entered c
     by_fit true f = entered_on c o f (deck_of c.deck) refl (rw f at e)
-    by_fit false f = differs o BadDrum (rw f at e)
+    by_fit false f = err_no_ok (rw f at e)
 
 -- ---- and what they find of what the run left
 

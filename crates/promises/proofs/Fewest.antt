@@ -14,7 +14,7 @@ use Rattle.rules.specs.Cards.{card_of}
 use Rattle.rules.specs.Codes.{owned_at}
 use Rattle.rules.specs.Decks.{card_size, Piece, cut_from, data_in}
 use Rattle.rules.specs.Making.{Block, blocks_in}
-use Rattle.rules.specs.declared.Cell.{Cell}
+use Rattle.rules.specs.Answers.{Cell}
 use Rattle.rules.specs.declared.Card.{Card}
 use Rattle.rules.specs.declared.Card.TheVariants.{Data, First, Bad, End}
 use Rattle.rules.proofs.Tests.{both_first, both_second}

@@ -1,5 +1,6 @@
 -- Why a cell that is unmarked in the end is as it was: a call lays cells over the drum that have only grown from its view, and a foreign
 -- cell laid over the drum leaves the number that is there. Assumes nothing.
+use Rattle.std.proofs.Common.{Err, Ok}
 use Prim.Native.Nat.{ℕ}
 use mathlib.Core.Path.{◌≡◌, refl, sym, ap, ◌∙◌}
 use mathlib.Core.List.{List, [], ◌∷◌}
@@ -10,9 +11,7 @@ use Rattle.rules.specs.Decks.{data_from, cards_stored, deck_of}
 use Rattle.rules.specs.Machine.{present}
 use Rattle.rules.specs.Running.{begun, inputs, run_from, state_fits, ran_as, ran_on, ran_by, ran}
 use Rattle.rules.specs.Loads.{loaded_from, loaded}
-use Rattle.rules.specs.declared.Cell.{Cell}
-use Rattle.rules.specs.declared.Deck.{Deck}
-use Rattle.rules.specs.declared.Deck.TheVariants.{Good, Faulty}
+use Rattle.rules.specs.Answers.{Cell, Deck}
 use Rattle.rules.specs.declared.State.{State}
 use Rattle.rules.specs.declared.Switches.{Switches}
 use Rattle.rules.proofs.Views.{length-overlay, Fit, fit, marks_again, Grows, store_grows, overlay_kept}
@@ -42,10 +41,10 @@ laid_over drum marks v t f g e =
 module _ (drum marks : List ℕ) where
   load_kept_from : (deck : List ℕ) (s : State) (t : Bool) (k : Deck) → Fit drum marks → Kept drum marks (after_load (loaded_from (load_of drum marks deck s t) k))
   unfolding loaded_from
-  load_kept_from deck s t (Faulty f) h = nothing_done drum marks _ refl
-  load_kept_from deck s t (Good behind order problem) h =
-      let v : List Cell = cards_stored behind (data_from deck 0) (view drum marks) in
-      laid_over drum marks (store v 0 0) _ h (λ i z. cards_grow behind (data_from deck 0) (view drum marks) i (store_grows v 0 0 i z)) refl
+  load_kept_from deck s t (Err f) h = nothing_done drum marks _ refl
+  load_kept_from deck s t (Ok start) h =
+      let v : List Cell = cards_stored start.behind (data_from deck 0) (view drum marks) in
+      laid_over drum marks (store v 0 0) _ h (λ i z. cards_grow start.behind (data_from deck 0) (view drum marks) i (store_grows v 0 0 i z)) refl
 
   load_kept : (deck : List ℕ) (s : State) (t : Bool) → Kept drum marks (after_load (loaded (load_of drum marks deck s t)))
   unfolding loaded
@@ -57,11 +56,11 @@ module _ (drum marks : List ℕ) where
 
   run_kept_from : (deck out : List ℕ) (s : State) (n : ℕ) (t : Switches) (k : Deck) → Fit drum marks → Kept drum marks (after_run (ran_on present (run_of drum marks deck out s n t) k))
   unfolding ran_on ran_as
-  run_kept_from deck out s n t (Faulty f) h = nothing_done drum marks _ refl
-  run_kept_from deck out s n t (Good behind order problem) h = by_state (state_fits (view drum marks) deck behind s n) refl
+  run_kept_from deck out s n t (Err f) h = nothing_done drum marks _ refl
+  run_kept_from deck out s n t (Ok start) h = by_state (state_fits (view drum marks) deck start.behind s n) refl
     where
-      by_state : (b : Bool) → state_fits (view drum marks) deck behind s n ≡ b
-          → Kept drum marks (after_run (ran_on present (run_of drum marks deck out s n t) (Good behind order problem)))
+      by_state : (b : Bool) → state_fits (view drum marks) deck start.behind s n ≡ b
+          → Kept drum marks (after_run (ran_on present (run_of drum marks deck out s n t) (Ok start)))
       by_state true e =
           rw e
           (let c = run_of drum marks deck out s n t in

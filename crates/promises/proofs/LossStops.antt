@@ -1,5 +1,6 @@
 -- Why the stop 03 only stops: an order that stops with it has done what it does with the switch on RUN, or without this stop, and every other
 -- order is the same with it and without. Assumes nothing.
+use Rattle.std.proofs.Common.{Ok}
 use Prim.Native.Nat.{ℕ, ◌≤◌}
 use mathlib.Core.Path.{◌≡◌, refl, sym, ap, ◌∙◌}
 use mathlib.Core.Bool.{Bool, true, false}
@@ -12,8 +13,7 @@ use Rattle.rules.specs.Orders.{stops_at}
 use Rattle.rules.specs.Running.{RunCall, RunResult, begun, inputs, state_fits, ran_as, ran_by, ran}
 use Rattle.rules.specs.declared.Switches.{Switches}
 use Rattle.rules.specs.declared.Stop.TheVariants.{Lost}
-use Rattle.rules.specs.declared.Outcome.TheVariants.{Stops}
-use Rattle.rules.specs.declared.Ending.TheVariants.{Ran}
+use Rattle.rules.specs.declared.Done.TheVariants.{Stops}
 use Rattle.rules.proofs.Tests.{false_true, both_second}
 use Rattle.rules.proofs.Entered.{Entered, course, course_by, of_runs, ran_course, ran_course_by, ran_count, budget_small}
 use Rattle.rules.proofs.Steps.{inputs_with}
@@ -22,7 +22,7 @@ use Rattle.promises.specs.Calls.{run_of}
 use Rattle.promises.specs.LossStops.{OnRunAsBefore, OnStopAsBefore, run, with_budget_used, LossStopOnlyStops, order_on_run, LossStopLeavesResult}
 use Rattle.promises.proofs.Entry.{entered}
 use Rattle.promises.proofs.Again.{ran_outcome}
-use Rattle.promises.proofs.Barred.{same_outcome}
+use Rattle.rules.proofs.Sides.{same_ok}
 
 -- ---- orders
 
@@ -43,8 +43,8 @@ loss_stop_leaves_result i m w e =
 pub on_stop_as_before : OnStopAsBefore
 unfolding ran_as
 on_stop_as_before c =
-    of_runs (λ (r : Requests → RunResult). ((w : ℕ) → (r present).ending ≡ Ran (Stops Lost w) → ⊥) → r present ≡ r (without_loss_stops present)) c (λ b f. refl)
-    (λ h f. ap (ran_as c) (sym (run_same (inputs c) c.switches (without_loss_stops present) (λ n. refl) (λ e. e) refl refl c.budget (begun c) 0 (λ w e. f w (ap Ran e)))))
+    of_runs (λ (r : Requests → RunResult). ((w : ℕ) → (r present).ending ≡ Ok (Ok (Stops Lost w)) → ⊥) → r present ≡ r (without_loss_stops present)) c (λ b f. refl)
+    (λ h f. ap (ran_as c) (sym (run_same (inputs c) c.switches (without_loss_stops present) (λ n. refl) (λ e. e) refl refl c.budget (begun c) 0 (λ w e. f w (ap Ok e)))))
 
 -- the same call for no more orders, with any switches, passes the same checks
 fewer_entered : (c : RunCall) → Entered c → (n : ℕ) (s : Switches) → n ≤ c.budget → Entered (run_of c.drum c.marks c.deck c.out c.state n s)
@@ -60,11 +60,11 @@ fewer_entered c h n s l =
     }
 
 -- a run that 03 ended, and the same call for as many orders where no loss stops it
-module _ (c : RunCall) (w : ℕ) (e : (ran c).ending ≡ Ran (Stops Lost w)) (s : Switches) (q : Requests)
+module _ (c : RunCall) (w : ℕ) (e : (ran c).ending ≡ Ok (Ok (Stops Lost w))) (s : Switches) (q : Requests)
     (never : (n : ℕ) → stops_at (inputs_with s q (inputs c)) n ≡ false) (less : s.stop ≡ true → c.switches.stop ≡ true)
     (sums : q.sums_carry ≡ true) where
   h : Entered c
-  h = entered c (Stops Lost w) e
+  h = entered c (Ok (Stops Lost w)) e
 
   abbrev as_many : RunCall
   as_many = run_of c.drum c.marks c.deck c.out c.state (ran c).count s
@@ -72,7 +72,7 @@ module _ (c : RunCall) (w : ℕ) (e : (ran c).ending ≡ Ran (Stops Lost w)) (s 
   stopped : (c.switches.stop ≡ true) × (course_by q as_many ≡ went_on (course c))
   unfolding ran_as
   stopped =
-      run_stopped (inputs c) s q never less sums c.budget (begun c) 0 (ran c).count w (same_outcome (sym (ran_outcome c h) ∙ e))
+      run_stopped (inputs c) s q never less sums c.budget (begun c) 0 (ran c).count w (same_ok (sym (ran_outcome c h) ∙ e))
       (ap (λ (x : RunResult). x.count) (sym (ran_course c h)) ∙ omega arith)
 
   goes_on : ran_by q as_many ≡ with_budget_used (ran c)

@@ -1,5 +1,6 @@
 -- What the loss of a sum says of its numbers. One of the two operands has the larger exponent, and the law for any form is told from that
 -- one; where there is no zero, words have the digits and exponents of such numbers. Assumes nothing.
+use Rattle.std.proofs.Common.{Err, Ok}
 use Prim.Native.Nat.{ℕ, suc, ◌+◌, ◌-◌, ◌*◌, ◌^◌, max, ◌≤◌, ◌<◌}
 use mathlib.Core.Path.{◌≡◌, refl, sym, ap, subst, ◌∙◌}
 use mathlib.Core.Logic.{◌⊎◌, inl, inr, ⊎_elim}
@@ -12,8 +13,7 @@ use borrow.Author.Tests.{eqb-true, eqb-false, ne_eqb}
 use Rattle.rules.specs.Words.{pick, both, either, is_number, sign_in, leading_in, exponent_in}
 use Rattle.rules.specs.Rounding.{Form, Value, Settled, nought, value, outside, single, scaled, sum, sum_of, difference_of}
 use Rattle.rules.specs.Arithmetic.{value_in, word_of, of_numbers, add_of, sub_of, is_zero, loss_of, loss_in}
-use Rattle.rules.specs.declared.Reckoned.{Reckoned}
-use Rattle.rules.specs.declared.Reckoned.TheVariants.{Result, Refused}
+use Rattle.rules.specs.Answers.{Reckoned}
 use Rattle.rules.specs.declared.Refusal.TheVariants.{NotNumber}
 use Rattle.rules.proofs.Nearest.{ten_above}
 use Rattle.rules.proofs.Words.{number_leading}
@@ -87,11 +87,11 @@ loss_some x y z = by_tests (is_zero z) (is_zero x) (is_zero y) refl refl refl
     by_tests false false false i j k = inr (above x.leading j, above y.leading k, above z.leading i)
 
 -- what is answered with a word was of numbers
-of_result : (a b w : ℕ) (r : Reckoned) → of_numbers a b r ≡ Result w → Numbers a b × (r ≡ Result w)
+of_result : (a b w : ℕ) (r : Reckoned) → of_numbers a b r ≡ Ok w → Numbers a b × (r ≡ Ok w)
 of_result a b w r = by_tests (is_number a) refl (is_number b) refl
   where
     by_tests : (p : Bool) → is_number a ≡ p → (q : Bool) → is_number b ≡ q
-        → pick (both p q) r (Refused NotNumber) ≡ Result w → Numbers a b × (r ≡ Result w)
+        → pick (both p q) r (Err NotNumber) ≡ Ok w → Numbers a b × (r ≡ Ok w)
     by_tests true i true j k = ((i, j), k)
     by_tests true i false j k = let z : ◌≡◌ {A = ℕ} 0 1 = cc in absurd (omega arith)
     by_tests false i q j k = let z : ◌≡◌ {A = ℕ} 0 1 = cc in absurd (omega arith)
@@ -112,7 +112,7 @@ module _ (a b t w : ℕ) where
       }
 
   settled_says : Full single (value_in a) → Full single (value_in b) → 0 < leading_in w
-      → (v : Settled) → sum single (sign_in a) (worth a) t (worth b) ≡ v → word_of v ≡ Result w
+      → (v : Settled) → sum single (sign_in a) (worth a) t (worth b) ≡ v → word_of v ≡ Ok w
       → Says single (value_in a) (value_in b) t (value_in w)
   settled_says p q some nought i j = let z : 0 ≡ w = cc in absurd (omega arith)
   settled_says p q some outside i j = let z : ◌≡◌ {A = ℕ} 0 1 = cc in absurd (omega arith)
@@ -126,10 +126,10 @@ module _ (a b t w : ℕ) where
       let exponent : exponent_in w ≡ e = omega arith in
       subst (Says single (value_in a) (value_in b) t) (cc) (loss_says single (omega arith) (value_in a) (value_in b) p q t s m e i)
 
-  word_says : of_numbers a b (word_of (sum single (sign_in a) (worth a) t (worth b))) ≡ Result w → WordSays a b t w (loss_in a b (Result w))
+  word_says : of_numbers a b (word_of (sum single (sign_in a) (worth a) t (worth b))) ≡ Ok w → WordSays a b t w (loss_in a b (Ok w))
   word_says i =
-      let r : Numbers a b × (word_of (sum single (sign_in a) (worth a) t (worth b)) ≡ Result w) = of_result a b w _ i in
-      ⊎_elim (λ none. nothing_lost (loss_in a b (Result w)) none.0 none.1)
+      let r : Numbers a b × (word_of (sum single (sign_in a) (worth a) t (worth b)) ≡ Ok w) = of_result a b w _ i in
+      ⊎_elim (λ none. nothing_lost (loss_in a b (Ok w)) none.0 none.1)
       (λ some.
       let g : Says single (value_in a) (value_in b) t (value_in w) =
       settled_says (full a r.0.0 some.0) (full b r.0.1 some.1) some.2 (sum single (sign_in a) (worth a) t (worth b)) refl r.1 in

@@ -1,5 +1,6 @@
 -- What a made deck is worth. A call that says how many bytes it made has passed its checks, and its output begins with the deck; that deck
 -- is good, has a card for each block, stores each block's words, and is never longer than 13,196 bytes. Assumes nothing.
+use Rattle.std.proofs.Common.{Err, Ok}
 use Prim.Native.Nat.{ℕ, zero, suc, ◌≤◌, ◌<◌}
 use mathlib.Core.Path.{◌≡◌, refl, sym, ap, ap₂, subst, ◌∙◌}
 use mathlib.Core.List.{List, ◌∷◌, ◌++◌, map}
@@ -15,11 +16,9 @@ use Rattle.rules.specs.Decks.{DataCard, data_from, deck_of}
 use Rattle.rules.specs.Running.{over}
 use Rattle.rules.specs.Loads.{cells_loaded, loaded_from, loaded}
 use Rattle.rules.specs.Making.{Block, blocks_in, deck_made, MakeCall, MakeResult, not_made, made_of, numbers_fit, made}
-use Rattle.rules.specs.declared.Cell.{Cell}
+use Rattle.rules.specs.Answers.{Cell, Making, good}
 use Rattle.rules.specs.declared.State.{State}
-use Rattle.rules.specs.declared.Deck.TheVariants.{Good}
-use Rattle.rules.specs.declared.Making.{Making}
-use Rattle.rules.specs.declared.Making.TheVariants.{Made, UnfitDrum, UnfitNumber, Full}
+use Rattle.rules.specs.declared.Unmade.TheVariants.{Full, UnfitDrum, UnfitNumber}
 use Rattle.rules.proofs.Views.{length-overlay, Fit, fit, length-view, length_marks, marks_again, view_again}
 use Rattle.rules.proofs.Sound.{all_words, words_fit_lem, marks_of_fit}
 use Rattle.rules.proofs.MadeSizes.{made_short}
@@ -27,6 +26,7 @@ use Rattle.rules.proofs.MadeCells.{AllBear, no_card, one_card, Given, given_back
 use Rattle.rules.proofs.MadeDecks.{deck_good, deck_bears, in_range_lem}
 use Rattle.promises.specs.Calls.{load_of, make_of}
 use Rattle.promises.specs.Making.{block_of, HasThese, Restored, MadeIsGood, LoadsTheSame, MadeAlike, SameDeckAgain, RefusedMakeWritesNothing, MadePastUntouched, longest_made, RoomEnough}
+use Rattle.rules.proofs.Sides.{same_ok}
 use Rattle.promises.proofs.SameDecks.{deck_same}
 
 -- ---- what the checks of a call found
@@ -60,7 +60,7 @@ passed c d n r =
     }
 
 abbrev made_as : MakeCall → MakeResult
-made_as c = record { making = Made (length (deck_for c)); out = over (deck_for c) c.out }
+made_as c = record { making = Ok (length (deck_for c)); out = over (deck_for c) c.out }
 
 -- a call that passes its checks makes the deck
 numbers_fit_lem : {c : MakeCall} → Passed c → numbers_fit c.order c.problem ≡ true
@@ -73,11 +73,11 @@ is_made c d n r = rw (d, n, le-leb (length (deck_for c)) (length c.out) r)
 
 -- why none is made
 data Refused (c : MakeCall) : Making → Type 0 where
-  drum_unfit : Refused c UnfitDrum
-  number_unfit : Refused c UnfitNumber
-  too_long : Fit c.drum c.marks → length c.out < length (deck_for c) → Refused c Full
+  drum_unfit : Refused c (Err UnfitDrum)
+  number_unfit : Refused c (Err UnfitNumber)
+  too_long : Fit c.drum c.marks → length c.out < length (deck_for c) → Refused c (Err Full)
 
-not_made_lem : {c : MakeCall} {x : Making} {n : ℕ} → Refused c x → x ≡ Made n → ⊥
+not_made_lem : {c : MakeCall} {x : Making} {n : ℕ} → Refused c x → x ≡ Ok n → ⊥
 not_made_lem drum_unfit e = let z : ◌≡◌ {A = ℕ} 0 1 = cc in omega arith
 not_made_lem number_unfit e = let z : ◌≡◌ {A = ℕ} 0 1 = cc in omega arith
 not_made_lem (too_long f l) e = let z : ◌≡◌ {A = ℕ} 0 1 = cc in omega arith
@@ -85,20 +85,20 @@ not_made_lem (too_long f l) e = let z : ◌≡◌ {A = ℕ} 0 1 = cc in omega ar
 -- What is said of a call's result where no deck is made, and where one is made, is said of each.
 module _ (P : MakeResult → Type 0) (c : MakeCall) (not : (x : Making) → Refused c x → P (not_made c x)) (did : Passed c → P (made_as c)) where
   by_room : drum_fits (length c.drum) c.marks (cells_of c) ≡ true → numbers_fit c.order c.problem ≡ true
-      → (t : Bool) → leb (length (deck_for c)) (length c.out) ≡ t → P (pick t (made_as c) (not_made c Full))
+      → (t : Bool) → leb (length (deck_for c)) (length c.out) ≡ t → P (pick t (made_as c) (not_made c (Err Full)))
   by_room d n true e = did (passed c d n e)
-  by_room d n false e = not Full (too_long (fit c.drum c.marks d) (leb-false (length (deck_for c)) (length c.out) e))
+  by_room d n false e = not (Err Full) (too_long (fit c.drum c.marks d) (leb-false (length (deck_for c)) (length c.out) e))
 
   by_numbers : drum_fits (length c.drum) c.marks (cells_of c) ≡ true → (t : Bool) → numbers_fit c.order c.problem ≡ t
-      → P (pick t (made_of c (deck_for c)) (not_made c UnfitNumber))
+      → P (pick t (made_of c (deck_for c)) (not_made c (Err UnfitNumber)))
   unfolding made_of
   by_numbers d true e = by_room d e (leb (length (deck_for c)) (length c.out)) refl
-  by_numbers d false e = not UnfitNumber number_unfit
+  by_numbers d false e = not (Err UnfitNumber) number_unfit
 
   by_drum : (t : Bool) → drum_fits (length c.drum) c.marks (cells_of c) ≡ t
-      → P (pick t (pick (numbers_fit c.order c.problem) (made_of c (deck_for c)) (not_made c UnfitNumber)) (not_made c UnfitDrum))
+      → P (pick t (pick (numbers_fit c.order c.problem) (made_of c (deck_for c)) (not_made c (Err UnfitNumber))) (not_made c (Err UnfitDrum)))
   by_drum true e = by_numbers e (numbers_fit c.order c.problem) refl
-  by_drum false e = not UnfitDrum drum_unfit
+  by_drum false e = not (Err UnfitDrum) drum_unfit
 
   of_make_lem : P (made c)
   unfolding made
@@ -110,29 +110,26 @@ record Done (c : MakeCall) (n : ℕ) (x : MakeResult) : Type 0 where
   long : length (deck_for c) ≡ n
   out_is : x.out ≡ deck_for c ++ drop n c.out
 
-same_made : {a b : ℕ} → Made a ≡ Made b → a ≡ b
-same_made e = cc
-
-done : (c : MakeCall) (n : ℕ) → (made c).making ≡ Made n → Done c n (made c)
+done : (c : MakeCall) (n : ℕ) → (made c).making ≡ Ok n → Done c n (made c)
 unfolding over
 done c n =
-    of_make_lem (λ (x : MakeResult). x.making ≡ Made n → Done c n x) c (λ x r e. absurd (not_made_lem r e))
+    of_make_lem (λ (x : MakeResult). x.making ≡ Ok n → Done c n x) c (λ x r e. absurd (not_made_lem r e))
     (λ p e. record {
       checks = p;
-      long = same_made e;
-      out_is = ap (λ (k : ℕ). deck_for c ++ drop k c.out) (same_made e);
+      long = same_ok e;
+      out_is = ap (λ (k : ℕ). deck_for c ++ drop k c.out) (same_ok e);
     })
 
 module _ (c : MakeCall) (n : ℕ) (h : Done c n (made c)) where
   deck_is : take n (made c).out ≡ deck_for c
   deck_is = ap (take n) h.out_is ∙ take_at (deck_for c) (drop n c.out) n h.long
 
-  is_good : deck_of (take n (made c).out) ≡ Good n c.order c.problem
+  is_good : deck_of (take n (made c).out) ≡ good n c.order c.problem
   is_good =
       let p = h.checks in
       ap deck_of deck_is
       ∙ deck_good (cells_of c) c.order c.problem (cells_long c p.lent) p.lent.words_fit_lem p.from p.upto p.posed
-      ∙ ap (λ (k : ℕ). Good k c.order c.problem) h.long
+      ∙ ap (λ (k : ℕ). good k c.order c.problem) h.long
 
   bears : AllBear (cells_of c) n (data_from (take n (made c).out) 0) (blocks_in (cells_of c))
   bears =
@@ -233,7 +230,7 @@ module _ (c : MakeCall) (n : ℕ) (h : Done c n (made c)) (drum marks : List ℕ
       let long : length (deck_for d) ≡ n = ap length same ∙ h.long in
       let y : made d ≡ made_as d = is_made d fits_again (numbers_fit_lem h.checks) (omega arith) in
       record {
-        making_same = ap (λ (x : MakeResult). x.making) y ∙ ap Made long;
+        making_same = ap (λ (x : MakeResult). x.making) y ∙ ap Ok long;
         deck_same =
             ap (λ (x : MakeResult). take n x.out) y
             ∙ take_at (deck_for d) (drop (length (deck_for d)) room) n long
@@ -251,7 +248,7 @@ same_deck_again c n e drum marks k s traced room l = made_again c n (done c n e)
 
 pub refused_make_writes_nothing : RefusedMakeWritesNothing
 refused_make_writes_nothing c =
-    of_make_lem (λ (x : MakeResult). ((n : ℕ) → x.making ≡ Made n → ⊥) → x.out ≡ c.out) c (λ x r h. refl)
+    of_make_lem (λ (x : MakeResult). ((n : ℕ) → x.making ≡ Ok n → ⊥) → x.out ≡ c.out) c (λ x r h. refl)
     (λ p h. absurd (h (length (deck_for c)) refl))
 
 pub made_past_untouched : MadePastUntouched
@@ -267,11 +264,11 @@ made_past_untouched c n e =
     }
 
 -- a deck is refused for its room only where it is longer than that, and none that is made is longer than 13,196 bytes
-room_for : {c : MakeCall} {x : Making} → longest_made ≤ length c.out → Refused c x → x ≡ Full → ⊥
+room_for : {c : MakeCall} {x : Making} → longest_made ≤ length c.out → Refused c x → x ≡ (Err Full) → ⊥
 room_for l drum_unfit e = let z : ◌≡◌ {A = ℕ} 0 1 = cc in omega arith
 room_for l number_unfit e = let z : ◌≡◌ {A = ℕ} 0 1 = cc in omega arith
 room_for {c} l (too_long f g) e = omega (arith, made_short (cells_of c) c.order c.problem (cells_long c f))
 
 pub room_enough : RoomEnough
 room_enough c l =
-    of_make_lem (λ (x : MakeResult). x.making ≡ Full → ⊥) c (λ x r. room_for l r) (λ p e. let z : ◌≡◌ {A = ℕ} 0 1 = cc in omega arith)
+    of_make_lem (λ (x : MakeResult). x.making ≡ (Err Full) → ⊥) c (λ x r. room_for l r) (λ p e. let z : ◌≡◌ {A = ℕ} 0 1 = cc in omega arith)

@@ -1,4 +1,5 @@
 -- The order that comes next is obeyed, once it is told: by its code, the checks of its class and itself. Assumes nothing.
+use Rattle.std.proofs.Common.{Some}
 use Prim.Native.Nat.{ℕ, ◌+◌}
 use mathlib.Core.Path.{◌≡◌, refl, sym, ap, ◌∙◌}
 use mathlib.Core.Bool.{Bool, true, false}
@@ -10,7 +11,6 @@ use Rattle.rules.specs.Codes.{codes, lookup, code_in, pch_code, checked}
 use Rattle.rules.specs.Machine.{Machine, Inputs, is_traced, is_tracing, undone}
 use Rattle.rules.specs.Running.{allowed, obeyed_as, code_done, obeyed, trace_sent, trace_size, traced, fetched, step}
 use Rattle.rules.specs.declared.Refusal.TheVariants.{NoRoom}
-use Rattle.rules.specs.declared.Built.TheVariants.{As}
 use Rattle.rules.specs.declared.Class.{Class}
 use Rattle.rules.specs.declared.Operation.{Operation}
 use Rattle.promises.specs.Next.{Next, told}
@@ -42,7 +42,7 @@ module _ (i : Inputs) (m : Machine) (order w : ℕ) (h : Next i m order w) where
 
 -- ---- by its code, which is not PCH's, its checks and itself
 
-pub obeyed_by : (i : Inputs) (u : Machine) (w code : ℕ) (o : Operation) (k : Class) → code_in w ≡ code → (code ≡ pch_code → ⊥) → lookup code codes ≡ As o k
+pub obeyed_by : (i : Inputs) (u : Machine) (w code : ℕ) (o : Operation) (k : Class) → code_in w ≡ code → (code ≡ pch_code → ⊥) → lookup code codes ≡ Some (o, k)
     → obeyed i u w ≡ allowed i u o (a_in w) (b_in w) (c_in w) (checked k u.cells (a_in w) (b_in w) (c_in w))
 unfolding obeyed
 obeyed_by i u w code o k e f g = ap (obeyed_as i u (a_in w) (b_in w) (c_in w)) (ap (λ (n : ℕ). lookup n codes) (done_code (is_traced u.state)) ∙ g)

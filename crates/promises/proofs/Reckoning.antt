@@ -1,5 +1,6 @@
 -- The seven arithmetic orders answer what is due: each rounds its exact value once, and no such value but zero is too small for eight
 -- digits. Assumes nothing.
+use Rattle.std.proofs.Common.{Err, Ok}
 use Prim.Native.Nat.{ℕ, zero, suc, ◌+◌, ◌-◌, ◌*◌, ◌%◌, ◌^◌, ◌≤◌, ◌<◌}
 use mathlib.Core.Path.{◌≡◌, refl, sym, ap, subst, ◌∙◌}
 use mathlib.Core.Logic.{inl, inr}
@@ -13,8 +14,7 @@ use borrow.Author.Tests.{eqb-true, eqb-false, lt-ltb, le-ltb}
 use Rattle.rules.specs.Words.{pick, is_number, sign_in, digits_in, leading_in, exponent_in}
 use Rattle.rules.specs.Rounding.{Settled, single, settled, fraction, sum, sum_of, difference_of, product_of, quotient_of, root_of, root_halves}
 use Rattle.rules.specs.Arithmetic.{word_of, add_of, sub_of, mpy_of, div_of, ngmpy_of, sqrt_of, abs_of}
-use Rattle.rules.specs.declared.Reckoned.{Reckoned}
-use Rattle.rules.specs.declared.Reckoned.TheVariants.{Result, Refused}
+use Rattle.rules.specs.Answers.{Reckoned}
 use Rattle.rules.specs.declared.Refusal.TheVariants.{ZeroDivisor, NegativeRoot}
 use Rattle.rules.proofs.Nearest.{ten_above, ten_rises}
 use Rattle.rules.proofs.Rounding.{settled_none}
@@ -182,7 +182,7 @@ module _ (a b : ℕ) where
       exact : ℕ → Reckoned
       exact k = word_of (settled single ((sign_in a + sign_in b) % 2) (fraction (leading_in a * 10 ^ k) (leading_in b * 10 ^ exponent_in b)))
 
-      by_test : (c : Bool) → eqb b 0 ≡ c → Numbers a b → Answers (dividing a b) (pick c (Refused ZeroDivisor) (exact (exponent_in a + 57 + 100)))
+      by_test : (c : Bool) → eqb b 0 ≡ c → Numbers a b → Answers (dividing a b) (pick c (Err ZeroDivisor) (exact (exponent_in a + 57 + 100)))
       by_test true i n = refuses_zero (dividing a b) n (eqb-true b 0 i) (λ d. d)
       by_test false i n = subst (λ (k : ℕ). Answers (dividing a b) (exact k)) shifted (quotients n (eqb-false b 0 i))
 
@@ -205,7 +205,7 @@ module _ (b : ℕ) where
       exact : ℕ → Reckoned
       exact k = word_of (settled single 0 (root_halves single (leading_in b * 10 ^ k)))
 
-      by_test : (c : Bool) → eqb (sign_in b) 1 ≡ c → is_number b ≡ true → Answers (taking_root b) (pick c (Refused NegativeRoot) (exact (exponent_in b + 57 + 200)))
+      by_test : (c : Bool) → eqb (sign_in b) 1 ≡ c → is_number b ≡ true → Answers (taking_root b) (pick c (Err NegativeRoot) (exact (exponent_in b + 57 + 200)))
       by_test true i n = refuses_negative (taking_root b) n (λ d. d) (eqb-true (sign_in b) 1 i)
       by_test false i n = subst (λ (k : ℕ). Answers (taking_root b) (exact k)) shifted (roots n (eqb-false (sign_in b) 1 i))
 
@@ -234,7 +234,7 @@ module _ (b : ℕ) where
                 (subst (λ (k : ℕ). RoundedTo 8 (of_fraction (worth b) 1) (10 ^ (k + 100)) (leading_in b)) (sym place) whole);
           }
 
-  magnitudes : (n : is_number b ≡ true) → Answers (taking_magnitude b) (Result (digits_in b))
+  magnitudes : (n : is_number b ≡ true) → Answers (taking_magnitude b) (Ok (digits_in b))
   magnitudes n =
       let r : Rounds single (of_fraction (worth b) 1) (fraction (worth b) 1) = fraction_rounds single (omega arith) (worth b) 1 (omega arith) in
       let t : Taken (taking_magnitude b) = (n, (λ d. d), (λ d. d)) in
@@ -244,9 +244,9 @@ module _ (b : ℕ) where
 
   abs_answers : Answers (taking_magnitude b) (abs_of b)
   unfolding abs_of
-  abs_answers = of_one (taking_magnitude b) b (Result (digits_in b)) (λ n. n) magnitudes
+  abs_answers = of_one (taking_magnitude b) b (Ok (digits_in b)) (λ n. n) magnitudes
 
-  abs_digits : is_number b ≡ true → abs_of b ≡ Result (digits_in b)
+  abs_digits : is_number b ≡ true → abs_of b ≡ Ok (digits_in b)
   unfolding abs_of
   abs_digits n = rw n
 

@@ -9,7 +9,7 @@ use Rattle.rules.specs.Drum.{cell_at, is_owned, shown}
 use Rattle.rules.specs.Cards.{data_card, first_card}
 use Rattle.rules.specs.Orders.{words_from}
 use Rattle.rules.specs.Making.{neighbours, blocks_from, cards_for, deck_made}
-use Rattle.rules.specs.declared.Cell.{Cell}
+use Rattle.rules.specs.Answers.{Cell}
 
 module _ (u v : List Cell) (same : (x : ℕ) → 1 ≤ x → cell_at u x ≡ cell_at v x) where
   neighbours_same : (a n : ℕ) → 1 ≤ a → neighbours u a n ≡ neighbours v a n

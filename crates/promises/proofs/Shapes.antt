@@ -1,5 +1,6 @@
 -- Which cards are made: for just the marked cells, each once, ascending, with the rest of each run on its last card. Along the cells, step
 -- by step, cards that are so can be no others. Assumes nothing.
+use Rattle.std.proofs.Common.{None, Some}
 use Prim.Native.Nat.{ℕ, ◌+◌, ◌≤◌, ◌<◌}
 use native.Mathlib.Omega.{arith}
 use mathlib.Core.Path.{◌≡◌, refl, sym, ap, ap₂, subst, ◌∙◌}
@@ -13,8 +14,7 @@ use Rattle.rules.specs.Drum.{cell_at, is_owned, mark_of}
 use Rattle.rules.specs.Cards.{cells_fit}
 use Rattle.rules.specs.Codes.{owned_at}
 use Rattle.rules.specs.Making.{Block}
-use Rattle.rules.specs.declared.Cell.{Cell}
-use Rattle.rules.specs.declared.Cell.TheVariants.{Foreign, Owned}
+use Rattle.rules.specs.Answers.{Cell}
 use Rattle.rules.proofs.Tests.{both_first, both_second}
 use Rattle.rules.proofs.Blocks.{owned_is, foreign_is, Run, run_inside, one_run, Cut, no_steps, passes, takes, all_ahead}
 use Rattle.promises.specs.Making.{may_bear, all_may_bear, times, EachOnce, is_whole, in_order, RestLast, OnlyThese}
@@ -25,12 +25,12 @@ pub mark_owned : (c : Cell) → is_owned c ≡ true → mark_of c ≡ 1
 mark_owned c e = ap mark_of (sym (owned_is c e))
 
 pub marked_owned : (c : Cell) → 1 ≤ mark_of c → is_owned c ≡ true
-marked_owned Foreign l = let z : ⊥ = omega arith in absurd z
-marked_owned (Owned w) l = refl
+marked_owned None l = let z : ⊥ = omega arith in absurd z
+marked_owned (Some w) l = refl
 
 unmarked : (c : Cell) → mark_of c ≡ 0 → is_owned c ≡ false
-unmarked Foreign e = refl
-unmarked (Owned w) e = let z : ⊥ = omega arith in absurd z
+unmarked None e = refl
+unmarked (Some w) e = let z : ⊥ = omega arith in absurd z
 
 -- ---- what a data card may be for
 
@@ -128,7 +128,7 @@ all_bear (takes {a = a} {n = n} s r c) l i =
 times_from : {v : List Cell} {k a : ℕ} {bs : List Block} → Cut v k a bs → length v ≤ a + k → (x : ℕ) → a ≤ x
     → times bs x ≡ mark_of (cell_at v x)
 unfolding times
-times_from {v} no_steps l x i = sym (ap mark_of (get_or-eq_default v Foreign (omega arith)))
+times_from {v} no_steps l x i = sym (ap mark_of (get_or-eq_default v None (omega arith)))
 times_from {v} {bs = bs} (passes {a = a} o c) l x i = by_first (eqb a x) refl (λ (j : a + 1 ≤ x). times_from c (omega arith) x j)
   where
     by_first : (t : Bool) → eqb a x ≡ t → (a + 1 ≤ x → times bs x ≡ mark_of (cell_at v x)) → times bs x ≡ mark_of (cell_at v x)

@@ -1,11 +1,11 @@
 -- Why refusals leave nothing: each order answers a refusal with the machine that it was given, and a call that is barred hands back
 -- what it was lent. Assumes nothing.
+use Rattle.std.proofs.Common.{Err, Ok, Some}
 use Prim.Native.Nat.{ℕ}
 use mathlib.Core.Path.{◌≡◌, refl, sym, ap, subst}
 use mathlib.Core.Logic.{⊎_elim}
 use mathlib.Core.List.{List}
 use mathlib.Core.Bool.{Bool, true, false}
-use native.Mathlib.Omega.{arith}
 use lib.ListN.{length}
 use Rattle.rules.specs.Numbers.{tries_again}
 use Rattle.rules.specs.Drum.{view, cell_at, drum_fits}
@@ -13,16 +13,11 @@ use Rattle.rules.specs.Decks.{deck_of}
 use Rattle.rules.specs.Machine.{Machine, present}
 use Rattle.rules.specs.Running.{as_done, trace_sent, step, Left, RunCall, not_run, ran_as, state_fits, ran_on, ran_by, ran}
 use Rattle.rules.specs.Loads.{LoadCall, not_loaded, loaded_from, loaded}
-use Rattle.rules.specs.declared.Cell.TheVariants.{Owned}
-use Rattle.rules.specs.declared.Outcome.{Outcome}
-use Rattle.rules.specs.declared.Deck.{Deck}
-use Rattle.rules.specs.declared.Deck.TheVariants.{Good, Faulty}
+use Rattle.rules.specs.Answers.{Deck, good}
 use Rattle.rules.specs.declared.Bar.{Bar}
-use Rattle.rules.specs.declared.Bar.TheVariants.{BadDrum, BadDeck, BadState}
-use Rattle.rules.specs.declared.Ending.TheVariants.{Ran, NotRun}
-use Rattle.rules.specs.declared.Loading.TheVariants.{Loaded, NotLoaded}
 use Rattle.rules.proofs.Undone.{step_leaves}
 use Rattle.promises.specs.Undone.{AsBefore, RefusalUndone, SameOrderAgain, RefusedLoadChangesNothing, RefusedRunChangesNothing}
+use Rattle.rules.proofs.Sides.{same_err, ok_no_err}
 
 -- ---- orders
 
@@ -58,7 +53,7 @@ but_cards m sent n =
 as_before : (m u : Machine) → Left m u → AsBefore m u
 as_before m u l =
     ⊎_elim (λ (e : u ≡ m). subst (λ (x : Machine). AsBefore m x) (sym e) (but_cards m m.sent m.state.counter))
-    (λ (t : (w : ℕ) × (cell_at m.cells m.state.location ≡ Owned w) × (u ≡ trace_sent m w (as_done m.state w))).
+    (λ (t : (w : ℕ) × (cell_at m.cells m.state.location ≡ Some w) × (u ≡ trace_sent m w (as_done m.state w))).
     subst (λ (x : Machine). AsBefore m x) (sym t.2) (but_cards m _ _)) l
 
 pub same_order_again : SameOrderAgain
@@ -72,20 +67,11 @@ refusal_undone i m r e =
 -- ---- calls
 
 -- two different constructors
-load_differs : {A : Type 0} (b : Bar) → Loaded ≡ NotLoaded b → A
-load_differs b e = let z : ◌≡◌ {A = ℕ} 0 1 = cc in let y : ⊥ = omega arith in absurd y
-
-same_load_bar : (a b : Bar) → NotLoaded a ≡ NotLoaded b → a ≡ b
-same_load_bar a b e = cc
-
-same_run_bar : (a b : Bar) → NotRun a ≡ NotRun b → a ≡ b
-same_run_bar a b e = cc
-
 module _ (c : LoadCall) (b : Bar) where
-  load_barred : (k : Deck) → (loaded_from c k).loading ≡ NotLoaded b → loaded_from c k ≡ not_loaded c b
+  load_barred : (k : Deck) → (loaded_from c k).loading ≡ Err b → loaded_from c k ≡ not_loaded c b
   unfolding loaded_from
-  load_barred (Faulty f) e = ap (not_loaded c) (same_load_bar (BadDeck f) b e)
-  load_barred (Good behind order problem) e = load_differs b e
+  load_barred (Err f) e = ap (not_loaded c) (same_err e)
+  load_barred (Ok start) e = ok_no_err e
 
 pub refused_load_changes_nothing : RefusedLoadChangesNothing
 unfolding loaded
@@ -93,21 +79,18 @@ refused_load_changes_nothing c b e = by_fit (drum_fits (length c.drum) c.marks (
   where
     by_fit : (t : Bool) → drum_fits (length c.drum) c.marks (view c.drum c.marks) ≡ t → loaded c ≡ not_loaded c b
     by_fit true f = rw f (load_barred c b (deck_of c.deck) (rw f at e))
-    by_fit false f = rw f (ap (not_loaded c) (same_load_bar BadDrum b (rw f at e)))
-
-run_differs : {A : Type 0} (o : Outcome) (b : Bar) → Ran o ≡ NotRun b → A
-run_differs o b e = let z : ◌≡◌ {A = ℕ} 0 1 = cc in let y : ⊥ = omega arith in absurd y
+    by_fit false f = rw f (ap (not_loaded c) (same_err (rw f at e)))
 
 module _ (c : RunCall) (b : Bar) where
-  run_barred : (k : Deck) → (ran_on present c k).ending ≡ NotRun b → ran_on present c k ≡ not_run c b
+  run_barred : (k : Deck) → (ran_on present c k).ending ≡ Err b → ran_on present c k ≡ not_run c b
   unfolding ran_on ran_as
-  run_barred (Faulty f) e = ap (not_run c) (same_run_bar (BadDeck f) b e)
-  run_barred (Good behind order problem) e = by_state (state_fits (view c.drum c.marks) c.deck behind c.state c.budget) refl
+  run_barred (Err f) e = ap (not_run c) (same_err e)
+  run_barred (Ok start) e = by_state (state_fits (view c.drum c.marks) c.deck start.behind c.state c.budget) refl
     where
-      by_state : (t : Bool) → state_fits (view c.drum c.marks) c.deck behind c.state c.budget ≡ t
-          → ran_on present c (Good behind order problem) ≡ not_run c b
-      by_state true f = run_differs _ b (rw f at e)
-      by_state false f = rw f (ap (not_run c) (same_run_bar BadState b (rw f at e)))
+      by_state : (t : Bool) → state_fits (view c.drum c.marks) c.deck start.behind c.state c.budget ≡ t
+          → ran_on present c (good start.behind start.order start.problem) ≡ not_run c b
+      by_state true f = ok_no_err (rw f at e)
+      by_state false f = rw f (ap (not_run c) (same_err (rw f at e)))
 
 pub refused_run_changes_nothing : RefusedRunChangesNothing
 unfolding ran_by
@@ -115,4 +98,4 @@ refused_run_changes_nothing c b e = by_fit (drum_fits (length c.drum) c.marks (v
   where
     by_fit : (t : Bool) → drum_fits (length c.drum) c.marks (view c.drum c.marks) ≡ t → ran c ≡ not_run c b
     by_fit true f = rw f (run_barred c b (deck_of c.deck) (rw f at e))
-    by_fit false f = rw f (ap (not_run c) (same_run_bar BadDrum b (rw f at e)))
+    by_fit false f = rw f (ap (not_run c) (same_err (rw f at e)))

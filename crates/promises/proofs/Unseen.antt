@@ -1,5 +1,6 @@
 -- Why unmarked cells are nobody's business: the definitions are over the view, drums that are alike have one view, and what a call
 -- leaves is laid over the drum with each foreign cell's own number. Assumes nothing.
+use Rattle.std.proofs.Common.{Err, None, Ok, Some}
 use Prim.Native.Nat.{ℕ, zero, suc}
 use mathlib.Core.Path.{◌≡◌, refl, sym, ap, subst, ◌∙◌}
 use mathlib.Core.List.{List, [], ◌∷◌}
@@ -13,10 +14,7 @@ use Rattle.rules.specs.Machine.{present}
 use Rattle.rules.specs.Running.{begun, inputs, run_from, state_fits, ran_as, ran_on, ran_by, ran}
 use Rattle.rules.specs.Loads.{cells_loaded, loaded_from, loaded}
 use Rattle.rules.specs.Making.{MakeResult, made_of, made}
-use Rattle.rules.specs.declared.Cell.{Cell}
-use Rattle.rules.specs.declared.Cell.TheVariants.{Foreign, Owned}
-use Rattle.rules.specs.declared.Deck.{Deck}
-use Rattle.rules.specs.declared.Deck.TheVariants.{Good, Faulty}
+use Rattle.rules.specs.Answers.{Cell, Deck, good}
 use Rattle.rules.specs.declared.State.{State}
 use Rattle.rules.specs.declared.Switches.{Switches}
 use Rattle.rules.proofs.Views.{length-overlay}
@@ -27,7 +25,7 @@ use Rattle.promises.specs.Foreign.{Alike, SameFor, ForeignUnseen}
 
 same_cell : (m d₁ d₂ : ℕ) → ((m ≡ 0 → ⊥) → d₁ ≡ d₂) → cell_of m d₁ ≡ cell_of m d₂
 same_cell zero d₁ d₂ h = refl
-same_cell (suc m) d₁ d₂ h = ap Owned (h (suc-ne-zero m))
+same_cell (suc m) d₁ d₂ h = ap Some (h (suc-ne-zero m))
 
 same_view : (a b ms : List ℕ) → length a ≡ length b → ((i : ℕ) → (get_or ms i 0 ≡ 0 → ⊥) → get_or a i 0 ≡ get_or b i 0) → view a ms ≡ view b ms
 unfolding view
@@ -41,8 +39,8 @@ same_view (x ∷ a) (y ∷ b) (m ∷ ms) l s =
 -- ---- the same cells laid over both leave them alike
 
 number_same : (c : Cell) (d₁ d₂ : ℕ) → (mark_of c ≡ 0 → ⊥) → number_over c d₁ ≡ number_over c d₂
-number_same Foreign d₁ d₂ n = absurd (n refl)
-number_same (Owned w) d₁ d₂ n = refl
+number_same None d₁ d₂ n = absurd (n refl)
+number_same (Some w) d₁ d₂ n = refl
 
 overlay_same : (a b : List ℕ) (v : List Cell) → length a ≡ length b → (i : ℕ) → (get_or (marks_of v) i 0 ≡ 0 → ⊥)
     → get_or (overlay a v) i 0 ≡ get_or (overlay b v) i 0
@@ -77,10 +75,10 @@ module _ (drum₁ drum₂ marks : List ℕ) (h : Alike drum₁ drum₂ marks) wh
   load_from : (deck : List ℕ) (s : State) (t : Bool) (k : Deck)
       → Matched (after_load (loaded_from (load_of drum₁ marks deck s t) k)) (after_load (loaded_from (load_of drum₂ marks deck s t) k))
   unfolding loaded_from
-  load_from deck s t (Faulty f) = unchanged _ refl
-  load_from deck s t (Good behind order problem) =
+  load_from deck s t (Err f) = unchanged _ refl
+  load_from deck s t (Ok start) =
       rw one_view
-      (record { told_same = refl; alike = overlay_alike drum₁ drum₂ (cells_loaded (view drum₂ marks) deck behind) h.long })
+      (record { told_same = refl; alike = overlay_alike drum₁ drum₂ (cells_loaded (view drum₂ marks) deck start.behind) h.long })
 
   load_both : (deck : List ℕ) (s : State) (t : Bool)
       → Matched (after_load (loaded (load_of drum₁ marks deck s t))) (after_load (loaded (load_of drum₂ marks deck s t)))
@@ -95,11 +93,11 @@ module _ (drum₁ drum₂ marks : List ℕ) (h : Alike drum₁ drum₂ marks) wh
   run_from_lem : (deck out : List ℕ) (s : State) (n : ℕ) (t : Switches) (k : Deck)
       → Matched (after_run (ran_on present (run_of drum₁ marks deck out s n t) k)) (after_run (ran_on present (run_of drum₂ marks deck out s n t) k))
   unfolding ran_on ran_as
-  run_from_lem deck out s n t (Faulty f) = unchanged _ refl
-  run_from_lem deck out s n t (Good behind order problem) = by_state (state_fits (view drum₂ marks) deck behind s n) refl
+  run_from_lem deck out s n t (Err f) = unchanged _ refl
+  run_from_lem deck out s n t (Ok start) = by_state (state_fits (view drum₂ marks) deck start.behind s n) refl
     where
-      by_state : (b : Bool) → state_fits (view drum₂ marks) deck behind s n ≡ b
-          → Matched (after_run (ran_on present (run_of drum₁ marks deck out s n t) (Good behind order problem))) (after_run (ran_on present (run_of drum₂ marks deck out s n t) (Good behind order problem)))
+      by_state : (b : Bool) → state_fits (view drum₂ marks) deck start.behind s n ≡ b
+          → Matched (after_run (ran_on present (run_of drum₁ marks deck out s n t) (good start.behind start.order start.problem))) (after_run (ran_on present (run_of drum₂ marks deck out s n t) (good start.behind start.order start.problem)))
       by_state true e =
           rw (one_view, e)
           (let c = run_of drum₂ marks deck out s n t in

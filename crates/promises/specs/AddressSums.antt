@@ -1,6 +1,6 @@
 -- Sums of addresses that carry: what ADD and SUB of an address do, one by one; and that a run in which no such sum passes 999 or falls below 000
 -- is what it is by the rule of the base, by which a sum wraps within its address. Assumes nothing.
-use Rattle.std.specs.Prelude.{ℕ, ◌+◌, ◌-◌, ◌*◌, ◌≤◌, ◌<◌, ◌≡◌, true, false, length}
+use Rattle.std.specs.Prelude.{ℕ, ◌+◌, ◌-◌, ◌*◌, ◌≤◌, ◌<◌, ◌≡◌, true, false, length, Some, None, Ok, Err}
 use Rattle.rules.specs.Words.{sign_in, digits_in, worth_of, address_in, first_digit, a_in, b_in, c_in}
 use Rattle.rules.specs.Drum.{cell_at, word_at}
 use Rattle.rules.specs.Codes.{codes, lookup, code_in}
@@ -10,13 +10,10 @@ use Rattle.rules.specs.declared.Address.{Address}
 use Rattle.rules.specs.declared.Address.TheVariants.{OfA, OfB, OfC}
 use Rattle.rules.specs.declared.Changing.{Changing}
 use Rattle.rules.specs.declared.Changing.TheVariants.{SetTo, AddTo, SubFrom}
-use Rattle.rules.specs.declared.Cell.TheVariants.{Foreign, Owned}
 use Rattle.rules.specs.declared.Class.{Class}
-use Rattle.rules.specs.declared.Built.TheVariants.{As}
 use Rattle.rules.specs.declared.Operation.TheVariants.{Change}
 use Rattle.rules.specs.declared.Refusal.TheVariants.{BadAddress, Unmarked}
-use Rattle.rules.specs.declared.Outcome.TheVariants.{GoesOn, Undone}
-use Rattle.rules.specs.declared.Ending.TheVariants.{Ran}
+use Rattle.rules.specs.declared.Done.TheVariants.{GoesOn}
 use Rattle.promises.specs.Next.{Next, told}
 
 -- ---- orders
@@ -34,9 +31,9 @@ sub_code OfC = 007
 
 -- Cell b, which held y, has the digits d and y's sign; every other cell is what it was, nothing is written, and the next order is the one behind.
 pub record Redone (x : Answer) (u : Machine) (b y d : ℕ) : Type 0 where
-  pub goes_on : x.outcome ≡ GoesOn
+  pub goes_on : x.outcome ≡ (Ok GoesOn)
   pub word : ℕ
-  pub cell : cell_at x.machine.cells b ≡ Owned word
+  pub cell : cell_at x.machine.cells b ≡ Some word
   pub digits : digits_in word ≡ d
   pub sign : sign_in word ≡ sign_in y
   pub others : (a : ℕ) → (a ≡ b → ⊥) → cell_at x.machine.cells a ≡ cell_at u.cells a
@@ -47,9 +44,9 @@ pub record Redone (x : Answer) (u : Machine) (b y d : ℕ) : Type 0 where
 -- B 000 is 20; then an unmarked cell at B is 21, whatever it holds; then 20 where the ten digits do not hold the sum; else they become it.
 pub record Sums (x : Answer) (u : Machine) (b : ℕ) (Held : ℕ → Type 0) (sum : ℕ → ℕ) : Type 0 where
   pub zero : b ≡ 0 → x ≡ undone BadAddress u
-  pub foreign : 1 ≤ b → cell_at u.cells b ≡ Foreign → x ≡ undone Unmarked u
-  pub past : 1 ≤ b → (y : ℕ) → cell_at u.cells b ≡ Owned y → (Held (digits_in y) → ⊥) → x ≡ undone BadAddress u
-  pub held : 1 ≤ b → (y : ℕ) → cell_at u.cells b ≡ Owned y → Held (digits_in y) → Redone x u b y (sum (digits_in y))
+  pub foreign : 1 ≤ b → cell_at u.cells b ≡ None → x ≡ undone Unmarked u
+  pub past : 1 ≤ b → (y : ℕ) → cell_at u.cells b ≡ Some y → (Held (digits_in y) → ⊥) → x ≡ undone BadAddress u
+  pub held : 1 ≤ b → (y : ℕ) → cell_at u.cells b ≡ Some y → Held (digits_in y) → Redone x u b y (sum (digits_in y))
 
 -- The digits become the old ones and C times what the address is worth, or the old ones less that.
 abbrev pub AddsCarry : Type 0
@@ -73,10 +70,10 @@ Within SubFrom y c = c ≤ y
 -- the order in the machine's cell, done as w, changes the address x in the way k
 pub record Changes (m : Machine) (k : Changing) (x : Address) (w : ℕ) : Type 0 where
   pub order : ℕ
-  pub cell : cell_at m.cells m.state.location ≡ Owned order
+  pub cell : cell_at m.cells m.state.location ≡ Some order
   pub is_done_as : as_done m.state order ≡ w
   pub class : Class
-  pub built : lookup (code_in w) codes ≡ As (Change k x) class
+  pub built : lookup (code_in w) codes ≡ Some (Change k x, class)
 
 -- if the next order is an address change, the address that it changes and C stay within 000 to 999
 abbrev pub StaysWithin : Machine → Type 0
@@ -98,7 +95,7 @@ WrapsAsCarries = (q : Requests) (c : RunCall) → SumsStay (without_carries q) c
 -- digits do not hold.
 abbrev pub CarriesAsWraps : Type 0
 CarriesAsWraps =
-    (q : Requests) (c : RunCall) → SumsStay q c → ((ran_by q c).ending ≡ Ran (Undone BadAddress) → StaysWithin (behind q c (ran_by q c).count))
+    (q : Requests) (c : RunCall) → SumsStay q c → ((ran_by q c).ending ≡ Ok (Err BadAddress) → StaysWithin (behind q c (ran_by q c).count))
     → ran_by q c ≡ ran_by (without_carries q) c
 
 -- With the switch on RUN, such a run is the base's own.

@@ -1,12 +1,11 @@
 -- What a run leaves for the next one: the next is not refused at its entry, and after a refused order or the stop 00 it begins with the
 -- same order. Assumes nothing.
-use Rattle.std.specs.Prelude.{ℕ, ◌+◌, ◌≤◌, ◌≡◌, List, true}
+use Rattle.std.specs.Prelude.{ℕ, ◌+◌, ◌≤◌, ◌≡◌, List, true, Ok}
 use Rattle.rules.specs.Numbers.{completed, tries_again}
 use Rattle.rules.specs.Machine.{Machine}
 use Rattle.rules.specs.Running.{step, RunCall, RunResult, begun, inputs, ran}
+use Rattle.rules.specs.Answers.{Outcome}
 use Rattle.rules.specs.declared.Switches.{Switches}
-use Rattle.rules.specs.declared.Outcome.{Outcome}
-use Rattle.rules.specs.declared.Ending.TheVariants.{Ran}
 use Rattle.promises.specs.Calls.{run_of}
 use Rattle.promises.specs.Undone.{AsBefore}
 use Rattle.promises.specs.Counting.{Steps}
@@ -21,8 +20,8 @@ again c out budget switches = following c (ran c) out budget switches
 -- Behind a run that was not refused at its entry, no run is, whatever the first one ended with: 02 may go on later.
 abbrev pub MayGoOnLater : Type 0
 MayGoOnLater =
-    (c : RunCall) (o : Outcome) → (ran c).ending ≡ Ran o → (out : List ℕ) (budget : ℕ) (switches : Switches) → budget ≤ 999999
-    → (p : Outcome) × ((ran (again c out budget switches)).ending ≡ Ran p)
+    (c : RunCall) (o : Outcome) → (ran c).ending ≡ Ok o → (out : List ℕ) (budget : ℕ) (switches : Switches) → budget ≤ 999999
+    → (p : Outcome) × ((ran (again c out budget switches)).ending ≡ Ok p)
 
 -- so many steps of c come to an order that ended its run, and the machine with which the next run begins is the one in front of that order
 pub record MetAgain (c : RunCall) (o : Outcome) (next : RunCall) : Type 0 where
@@ -36,5 +35,5 @@ pub record MetAgain (c : RunCall) (o : Outcome) (next : RunCall) : Type 0 where
 -- Behind a run that a refusal or the stop 00 ended, the next run begins with the order that ended it.
 abbrev pub SameOrderNextRun : Type 0
 SameOrderNextRun =
-    (c : RunCall) (o : Outcome) → (ran c).ending ≡ Ran o → tries_again o ≡ true → (out : List ℕ) (budget : ℕ) (switches : Switches)
+    (c : RunCall) (o : Outcome) → (ran c).ending ≡ Ok o → tries_again o ≡ true → (out : List ℕ) (budget : ℕ) (switches : Switches)
     → MetAgain c o (again c out budget switches)

@@ -4,11 +4,9 @@ use Rattle.std.specs.Prelude.{ℕ, List, [], ◌∷◌, Bool}
 use Rattle.rules.specs.Running.{RunCall, RunResult, ran}
 use Rattle.rules.specs.Loads.{LoadCall, LoadResult, loaded}
 use Rattle.rules.specs.Making.{MakeCall, MakeResult, made}
+use Rattle.rules.specs.Answers.{Ending, Loading, Making}
 use Rattle.rules.specs.declared.State.{State}
 use Rattle.rules.specs.declared.Switches.{Switches}
-use Rattle.rules.specs.declared.Ending.{Ending}
-use Rattle.rules.specs.declared.Loading.{Loading}
-use Rattle.rules.specs.declared.Making.{Making}
 
 -- the state that a call begins with: the one that the call before it left, or any other
 pub data Start : Type 0 where

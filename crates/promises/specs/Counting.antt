@@ -1,21 +1,20 @@
 -- The count of a run is the number of the definition's steps that completed their order, and the run is these steps, one after
 -- another. Assumes nothing.
-use Rattle.std.specs.Prelude.{ℕ, zero, suc, ◌+◌, ◌<◌, ◌≡◌, false}
+use Rattle.std.specs.Prelude.{ℕ, zero, suc, ◌+◌, ◌<◌, ◌≡◌, false, Ok}
 use Rattle.rules.specs.Numbers.{completed, may_go_on}
 use Rattle.rules.specs.Machine.{Machine, Inputs}
 use Rattle.rules.specs.Running.{Course, step, run_from, RunCall, ran}
-use Rattle.rules.specs.declared.Outcome.{Outcome}
-use Rattle.rules.specs.declared.Outcome.TheVariants.{GoesOn}
-use Rattle.rules.specs.declared.Ending.TheVariants.{Ran}
+use Rattle.rules.specs.Answers.{Outcome}
+use Rattle.rules.specs.declared.Done.TheVariants.{GoesOn}
 
 -- k steps from m to u, after each of which the run could go on
 pub data Steps (i : Inputs) : ℕ → Machine → Machine → Type 0 where
   none : (m : Machine) → Steps i zero m m
-  next : (k : ℕ) (m u : Machine) → (step i m).outcome ≡ GoesOn → Steps i k (step i m).machine u → Steps i (suc k) m u
+  next : (k : ℕ) (m u : Machine) → (step i m).outcome ≡ (Ok GoesOn) → Steps i k (step i m).machine u → Steps i (suc k) m u
 
 -- how a run of at most so many orders from m comes to x
 pub data Comes (i : Inputs) (budget : ℕ) (m : Machine) (x : Course) : Type 0 where
-  used_up : Steps i budget m x.machine → x.outcome ≡ GoesOn → x.count ≡ budget → Comes i budget m x
+  used_up : Steps i budget m x.machine → x.outcome ≡ (Ok GoesOn) → x.count ≡ budget → Comes i budget m x
   ended :
       (k : ℕ) (u : Machine) → k < budget → Steps i k m u → x.outcome ≡ (step i u).outcome → x.machine ≡ (step i u).machine
       → may_go_on x.outcome ≡ false → x.count ≡ k + completed x.outcome → Comes i budget m x
@@ -28,6 +27,6 @@ CountIsSteps = (i : Inputs) (budget : ℕ) (m : Machine) → Comes i budget m (r
 -- With budget 0, a run that is not refused at its entry answers 02, and nothing is done.
 abbrev pub ZeroBudgetDoesNothing : Type 0
 ZeroBudgetDoesNothing =
-    (c : RunCall) (o : Outcome) → c.budget ≡ 0 → (ran c).ending ≡ Ran o
+    (c : RunCall) (o : Outcome) → c.budget ≡ 0 → (ran c).ending ≡ Ok o
     → ran c
-    ≡ record { ending = Ran GoesOn; count = 0; written = 0; state = c.state; drum = c.drum; marks = c.marks; out = c.out }
+    ≡ record { ending = Ok (Ok GoesOn); count = 0; written = 0; state = c.state; drum = c.drum; marks = c.marks; out = c.out }

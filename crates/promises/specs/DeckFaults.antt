@@ -1,7 +1,7 @@
 -- What each number of a refused deck says, of the deck's bytes: nothing here speaks of how a deck is checked. A card is known by its kind byte;
 -- it is as due where it is whole, each byte of it is the digit or sign that its layout has there, and its location or first order is in range.
 -- Assumes nothing.
-use Rattle.std.specs.Prelude.{ℕ, ◌+◌, ◌*◌, ◌-◌, ◌≤◌, ◌<◌, ◌≡◌, ◌↔◌, ◌⊎◌, List, true, false, eqb, length, get_or}
+use Rattle.std.specs.Prelude.{ℕ, ◌+◌, ◌*◌, ◌-◌, ◌≤◌, ◌<◌, ◌≡◌, ◌↔◌, ◌⊎◌, List, true, false, eqb, length, get_or, Ok, Err}
 use Rattle.rules.specs.Words.{pick}
 use Rattle.rules.specs.Drum.{view, drum_fits}
 use Rattle.rules.specs.Cards.{zero_byte, first_kind, data_size, first_size, is_data_kind, is_due}
@@ -9,10 +9,9 @@ use Rattle.rules.specs.Decks.{deck_of}
 use Rattle.rules.specs.Loads.{LoadCall, loaded}
 use Rattle.rules.specs.Running.{RunCall, ran}
 use Rattle.rules.specs.Numbers.{deck_place, check_number, check_place, loading_number, loading_place, ending_number, ending_place}
+use Rattle.rules.specs.Answers.{Deck}
 use Rattle.rules.specs.declared.DeckFault.{DeckFault}
 use Rattle.rules.specs.declared.DeckFault.TheVariants.{TooLong, At, NoFirst}
-use Rattle.rules.specs.declared.Deck.{Deck}
-use Rattle.rules.specs.declared.Deck.TheVariants.{Good, Faulty}
 
 -- ---- a card by its kind byte, as the table of cards has it
 
@@ -165,8 +164,8 @@ pub record CallsTell : Type 0 where
 
 -- what was told when every fault had the number 11: a bad card at its kind byte
 abbrev pub number_before : Deck → ℕ
-number_before (Good behind order problem) = 0
-number_before (Faulty f) = 11
+number_before (Ok start) = 0
+number_before (Err f) = 11
 
 abbrev pub place_before : DeckFault → ℕ
 place_before TooLong = 65536
@@ -186,4 +185,4 @@ InThatCard deck (NoFirst n) = deck_place (NoFirst n) ≡ place_before (NoFirst n
 -- A deck is refused now exactly where it was refused before, and its fault is told in the card in which it was told.
 pub record RefusedAsBefore : Type 0 where
   pub same_decks : (deck : List ℕ) → (check_number (deck_of deck) ≡ 0) ↔ (number_before (deck_of deck) ≡ 0)
-  pub same_card : (deck : List ℕ) (f : DeckFault) → deck_of deck ≡ Faulty f → InThatCard deck f
+  pub same_card : (deck : List ℕ) (f : DeckFault) → deck_of deck ≡ Err f → InThatCard deck f

@@ -1,14 +1,12 @@
 -- What the stop 03 changes of a run: nothing with the switch on RUN, and on STOP nothing but that the run ends there. A run without this stop
 -- is one by all other requests. Assumes nothing.
-use Rattle.std.specs.Prelude.{ℕ, ◌+◌, ◌≡◌, true, false}
+use Rattle.std.specs.Prelude.{ℕ, ◌+◌, ◌≡◌, true, false, Some, Ok}
 use Rattle.rules.specs.Drum.{cell_at}
 use Rattle.rules.specs.Machine.{Machine, Inputs, present, without_loss_stops, done}
 use Rattle.rules.specs.Running.{step, RunCall, RunResult, ran, ran_by}
-use Rattle.rules.specs.declared.Cell.TheVariants.{Owned}
 use Rattle.rules.specs.declared.Switches.{Switches}
 use Rattle.rules.specs.declared.Stop.TheVariants.{Lost}
-use Rattle.rules.specs.declared.Outcome.TheVariants.{GoesOn, Stops}
-use Rattle.rules.specs.declared.Ending.TheVariants.{Ran}
+use Rattle.rules.specs.declared.Done.TheVariants.{GoesOn, Stops}
 use Rattle.promises.specs.Calls.{run_of}
 
 -- ---- calls
@@ -19,7 +17,7 @@ OnRunAsBefore = (c : RunCall) → c.switches.stop ≡ false → ran c ≡ ran_by
 
 -- So is a run with the switch on STOP, unless 03 ends it.
 abbrev pub OnStopAsBefore : Type 0
-OnStopAsBefore = (c : RunCall) → ((w : ℕ) → (ran c).ending ≡ Ran (Stops Lost w) → ⊥) → ran c ≡ ran_by (without_loss_stops present) c
+OnStopAsBefore = (c : RunCall) → ((w : ℕ) → (ran c).ending ≡ Ok (Ok (Stops Lost w)) → ⊥) → ran c ≡ ran_by (without_loss_stops present) c
 
 -- the switch on RUN
 abbrev pub run : Switches
@@ -36,7 +34,7 @@ on_run c = run_of c.drum c.marks c.deck c.out c.state c.budget run
 abbrev pub with_budget_used : RunResult → RunResult
 with_budget_used x =
     record {
-      ending = Ran GoesOn;
+      ending = Ok (Ok GoesOn);
       count = x.count;
       written = x.written;
       state = x.state;
@@ -49,7 +47,7 @@ with_budget_used x =
 -- if there is no stop 03.
 abbrev pub LossStopOnlyStops : Type 0
 LossStopOnlyStops =
-    (c : RunCall) (w : ℕ) → (ran c).ending ≡ Ran (Stops Lost w)
+    (c : RunCall) (w : ℕ) → (ran c).ending ≡ Ok (Ok (Stops Lost w))
     → (ran (on_run (for_orders (ran c).count c)) ≡ with_budget_used (ran c)) × (ran_by (without_loss_stops present) (for_orders (ran c).count c) ≡ with_budget_used (ran c))
 
 -- ---- orders
@@ -62,8 +60,8 @@ order_on_run i = record { deck = i.deck; room = i.room; switches = run; requests
 pub record StoppedByLoss (i : Inputs) (m : Machine) (w : ℕ) : Type 0 where
   pub on_stop : i.switches.stop ≡ true
   pub leaves : step (order_on_run i) m ≡ done (step i m).machine
-  pub shown : cell_at (step i m).machine.cells 0 ≡ Owned w
+  pub shown : cell_at (step i m).machine.cells 0 ≡ Some w
   pub following : (step i m).machine.state.location ≡ m.state.location + 1
 
 abbrev pub LossStopLeavesResult : Type 0
-LossStopLeavesResult = (i : Inputs) (m : Machine) (w : ℕ) → (step i m).outcome ≡ Stops Lost w → StoppedByLoss i m w
+LossStopLeavesResult = (i : Inputs) (m : Machine) (w : ℕ) → (step i m).outcome ≡ Ok (Stops Lost w) → StoppedByLoss i m w

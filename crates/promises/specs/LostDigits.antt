@@ -1,11 +1,10 @@
 -- What the loss of a sum says of its numbers: like signs lose nothing; a loss of n digits leaves less than the 10 ^ (n - 1)th part of the
 -- larger operand, and more than the 10 ^ (n + 1)th; and from two digits on nothing was rounded, so that the last n - 1 digits of the result
 -- are zeros that no operand had. For any form of numbers, and then for words. Assumes nothing.
-use Rattle.std.specs.Prelude.{ℕ, suc, ◌+◌, ◌-◌, ◌*◌, ◌^◌, max, ◌≤◌, ◌<◌, ◌≡◌, ◌⊎◌}
+use Rattle.std.specs.Prelude.{ℕ, suc, ◌+◌, ◌-◌, ◌*◌, ◌^◌, max, ◌≤◌, ◌<◌, ◌≡◌, ◌⊎◌, Ok}
 use Rattle.rules.specs.Words.{sign_in, leading_in}
 use Rattle.rules.specs.Rounding.{Form, Value, value, scaled, sum}
 use Rattle.rules.specs.Arithmetic.{add_of, sub_of, loss_of, loss_in}
-use Rattle.rules.specs.declared.Reckoned.TheVariants.{Result}
 use Rattle.promises.specs.Reckoning.{worth, left}
 
 -- ---- for any form
@@ -44,7 +43,7 @@ pub record WordSays (a b t w n : ℕ) : Type 0 where
   pub zeros : 2 ≤ n → (q : ℕ) × (leading_in w ≡ q * 10 ^ (n - 1))
 
 abbrev pub SumSays : Type 0
-SumSays = (a b w : ℕ) → add_of a b ≡ Result w → WordSays a b (sign_in b) w (loss_in a b (Result w))
+SumSays = (a b w : ℕ) → add_of a b ≡ Ok w → WordSays a b (sign_in b) w (loss_in a b (Ok w))
 
 abbrev pub DifferenceSays : Type 0
-DifferenceSays = (a b w : ℕ) → sub_of a b ≡ Result w → WordSays a b (1 - sign_in b) w (loss_in a b (Result w))
+DifferenceSays = (a b w : ℕ) → sub_of a b ≡ Ok w → WordSays a b (1 - sign_in b) w (loss_in a b (Ok w))

@@ -1,18 +1,16 @@
 -- What a deck made of a drum's marked cells is worth: which cards it has, that no deck for these cells has fewer data cards, and that
 -- loading it gives them back. And what making leaves: a refused call writes nothing, what is past the deck is untouched, and 13,196 bytes
 -- are always room enough. Assumes nothing.
-use Rattle.std.specs.Prelude.{ℕ, ◌+◌, ◌≤◌, ◌≡◌, List, [], ◌∷◌, map, Bool, true, eqb, leb, ltb, length, get_or, take, drop}
+use Rattle.std.specs.Prelude.{ℕ, ◌+◌, ◌≤◌, ◌≡◌, List, [], ◌∷◌, map, Bool, true, eqb, leb, ltb, length, get_or, take, drop, Ok, Err}
 use Rattle.rules.specs.Words.{pick, both, either}
 use Rattle.rules.specs.Drum.{view, cell_at, mark_of, drum_fits}
 use Rattle.rules.specs.Cards.{cells_fit}
 use Rattle.rules.specs.Decks.{DataCard, data_from, deck_of}
 use Rattle.rules.specs.Loads.{LoadResult, fresh, loaded}
 use Rattle.rules.specs.Making.{Block, blocks_in, MakeCall, MakeResult, made}
-use Rattle.rules.specs.declared.Cell.{Cell}
+use Rattle.rules.specs.Answers.{Cell, good}
 use Rattle.rules.specs.declared.State.{State}
-use Rattle.rules.specs.declared.Deck.TheVariants.{Good}
-use Rattle.rules.specs.declared.Loading.TheVariants.{Loaded}
-use Rattle.rules.specs.declared.Making.TheVariants.{Made, Full}
+use Rattle.rules.specs.declared.Unmade.TheVariants.{Full}
 use Rattle.promises.specs.Calls.{load_of, make_of}
 
 -- ---- which cards
@@ -74,11 +72,11 @@ blocks_of deck = map block_of (data_from deck 0)
 
 -- The deck that is made has these cards; and no deck at all that loads just the marked cells, each once, has fewer data cards to load.
 abbrev pub HasThese : Type 0
-HasThese = (c : MakeCall) (n : ℕ) → (made c).making ≡ Made n → blocks_of (take n (made c).out) ≡ blocks_in (view c.drum c.marks)
+HasThese = (c : MakeCall) (n : ℕ) → (made c).making ≡ Ok n → blocks_of (take n (made c).out) ≡ blocks_in (view c.drum c.marks)
 
 abbrev pub FewestOfDecks : Type 0
 FewestOfDecks =
-    (c : MakeCall) (n : ℕ) → (made c).making ≡ Made n → (deck : List ℕ) → ForJust (view c.drum c.marks) (blocks_of deck)
+    (c : MakeCall) (n : ℕ) → (made c).making ≡ Ok n → (deck : List ℕ) → ForJust (view c.drum c.marks) (blocks_of deck)
     → length (blocks_of (take n (made c).out)) ≤ length (blocks_of deck)
 
 -- ---- loads the same
@@ -91,7 +89,7 @@ pub record Clear (drum marks : List ℕ) : Type 0 where
 -- what a load of the deck that c made, of n bytes, leaves on another drum
 pub record Restored (c : MakeCall) (n : ℕ) (drum : List ℕ) (traced : Bool) (x : LoadResult) : Type 0 where
   -- it is loaded, with first order and problem number as they were given
-  pub done : x.loading ≡ Loaded
+  pub done : x.loading ≡ (Ok tt)
   pub state_is : x.state ≡ fresh n c.order c.problem traced
   -- 000 is as after every load
   pub zero_marked : get_or x.marks 0 0 ≡ 1
@@ -104,23 +102,23 @@ pub record Restored (c : MakeCall) (n : ℕ) (drum : List ℕ) (traced : Bool) (
 
 -- What was made is a good deck, whose first-order card is its last.
 abbrev pub MadeIsGood : Type 0
-MadeIsGood = (c : MakeCall) (n : ℕ) → (made c).making ≡ Made n → deck_of (take n (made c).out) ≡ Good n c.order c.problem
+MadeIsGood = (c : MakeCall) (n : ℕ) → (made c).making ≡ Ok n → deck_of (take n (made c).out) ≡ good n c.order c.problem
 
 -- Loading it onto any valid drum with all marks 0 gives, 000 aside, the same marks and the same marked words.
 abbrev pub LoadsTheSame : Type 0
 LoadsTheSame =
-    (c : MakeCall) (n : ℕ) → (made c).making ≡ Made n
+    (c : MakeCall) (n : ℕ) → (made c).making ≡ Ok n
     → (drum marks : List ℕ) → Clear drum marks
     → (s : State) (traced : Bool) → Restored c n drum traced (loaded (load_of drum marks (take n (made c).out) s traced))
 
 -- And a deck made of the cells that it gave, with the same first order and problem number, is the same deck, in any room that holds it.
 pub record MadeAlike (n : ℕ) (x y : MakeResult) : Type 0 where
-  pub making_same : y.making ≡ Made n
+  pub making_same : y.making ≡ Ok n
   pub deck_same : take n y.out ≡ take n x.out
 
 abbrev pub SameDeckAgain : Type 0
 SameDeckAgain =
-    (c : MakeCall) (n : ℕ) → (made c).making ≡ Made n
+    (c : MakeCall) (n : ℕ) → (made c).making ≡ Ok n
     → (drum marks : List ℕ) → Clear drum marks
     → (s : State) (traced : Bool) (room : List ℕ) → n ≤ length room
     → let x = loaded (load_of drum marks (take n (made c).out) s traced) in
@@ -130,7 +128,7 @@ SameDeckAgain =
 
 -- A call that is refused writes nothing.
 abbrev pub RefusedMakeWritesNothing : Type 0
-RefusedMakeWritesNothing = (c : MakeCall) → ((n : ℕ) → (made c).making ≡ Made n → ⊥) → (made c).out ≡ c.out
+RefusedMakeWritesNothing = (c : MakeCall) → ((n : ℕ) → (made c).making ≡ Ok n → ⊥) → (made c).out ≡ c.out
 
 -- The output is as long as it was, and past the deck it holds what it held.
 pub record PastUntouched (c : MakeCall) (n : ℕ) : Type 0 where
@@ -139,11 +137,11 @@ pub record PastUntouched (c : MakeCall) (n : ℕ) : Type 0 where
   pub past : drop n (made c).out ≡ drop n c.out
 
 abbrev pub MadePastUntouched : Type 0
-MadePastUntouched = (c : MakeCall) (n : ℕ) → (made c).making ≡ Made n → PastUntouched c n
+MadePastUntouched = (c : MakeCall) (n : ℕ) → (made c).making ≡ Ok n → PastUntouched c n
 
 -- The longest deck, that of a drum with all cells marked, has 13,196 bytes: in a room of so many a call is never refused as 22.
 abbrev pub longest_made : ℕ
 longest_made = 13196
 
 abbrev pub RoomEnough : Type 0
-RoomEnough = (c : MakeCall) → longest_made ≤ length c.out → (made c).making ≡ Full → ⊥
+RoomEnough = (c : MakeCall) → longest_made ≤ length c.out → (made c).making ≡ (Err Full) → ⊥

@@ -2,11 +2,10 @@
 -- exactly where its line in `Due` holds. Magnitudes are counted in the fine unit, that of the exponent 100 below 00, worth 10 to the power
 -- -157: so a number's digits are scaled by its exponent and 100, a product's by 43, a quotient's by 157, and what a root is taken of by
 -- 257. Assumes nothing.
-use Rattle.std.specs.Prelude.{ℕ, zero, suc, ◌+◌, ◌-◌, ◌*◌, ◌%◌, ◌^◌, ◌≤◌, ◌<◌, ◌≡◌, ◌↔◌, true, eqb, ltb}
+use Rattle.std.specs.Prelude.{ℕ, zero, suc, ◌+◌, ◌-◌, ◌*◌, ◌%◌, ◌^◌, ◌≤◌, ◌<◌, ◌≡◌, ◌↔◌, true, eqb, ltb, Ok, Err}
 use Rattle.rules.specs.Words.{pick, is_number, sign_in, digits_in, leading_in, exponent_in}
 use Rattle.rules.specs.Arithmetic.{add_of, sub_of, mpy_of, div_of, ngmpy_of, sqrt_of, abs_of}
-use Rattle.rules.specs.declared.Reckoned.{Reckoned}
-use Rattle.rules.specs.declared.Reckoned.TheVariants.{Result, Refused}
+use Rattle.rules.specs.Answers.{Reckoned}
 use Rattle.rules.specs.declared.Refusal.TheVariants.{BadAddress, Unmarked, NoRoom, NotBuilt, NotNumber, ZeroDivisor, NegativeRoot, OutOfRange, Unfit, NoCard}
 use Rattle.promises.specs.Rounding.{Magnitude, of_fraction, of_root, RoundedTo}
 
@@ -48,17 +47,17 @@ Taken o = o.numbers × (o.zero_divisor → ⊥) × (o.negative_root → ⊥)
 
 -- When an answer is due: 24, 25, 26 and 27; a word; and no other refusal ever.
 abbrev pub Due : Order → Reckoned → Type 0
-Due o (Refused NotNumber) = o.numbers → ⊥
-Due o (Refused ZeroDivisor) = o.numbers × o.zero_divisor
-Due o (Refused NegativeRoot) = o.numbers × o.negative_root
-Due o (Refused OutOfRange) = Taken o × Beyond o.exact
-Due o (Result w) = Taken o × WordDue o.sign o.exact w
-Due o (Refused BadAddress) = ⊥
-Due o (Refused Unmarked) = ⊥
-Due o (Refused NoRoom) = ⊥
-Due o (Refused NotBuilt) = ⊥
-Due o (Refused Unfit) = ⊥
-Due o (Refused NoCard) = ⊥
+Due o (Err NotNumber) = o.numbers → ⊥
+Due o (Err ZeroDivisor) = o.numbers × o.zero_divisor
+Due o (Err NegativeRoot) = o.numbers × o.negative_root
+Due o (Err OutOfRange) = Taken o × Beyond o.exact
+Due o (Ok w) = Taken o × WordDue o.sign o.exact w
+Due o (Err BadAddress) = ⊥
+Due o (Err Unmarked) = ⊥
+Due o (Err NoRoom) = ⊥
+Due o (Err NotBuilt) = ⊥
+Due o (Err Unfit) = ⊥
+Due o (Err NoCard) = ⊥
 
 -- an answer is given exactly where it is due
 abbrev pub Answers : Order → Reckoned → Type 0
@@ -162,7 +161,7 @@ pub record Reckoning (a b : ℕ) : Type 0 where
   pub sqrt : Answers (taking_root b) (sqrt_of b)
   pub abs : Answers (taking_magnitude b) (abs_of b)
   -- no magnitude needs rounding: it has the word's digits
-  pub digits : is_number b ≡ true → abs_of b ≡ Result (digits_in b)
+  pub digits : is_number b ≡ true → abs_of b ≡ Ok (digits_in b)
 
 abbrev pub AllReckoned : Type 0
 AllReckoned = (a b : ℕ) → Reckoning a b

@@ -3,9 +3,9 @@
 use Rattle.std.specs.Prelude.{ℕ, ◌+◌, ◌-◌, ◌*◌, ◌≤◌, ◌≡◌, List, [], ◌∷◌, ◌++◌, Bool, true, false, eqb, length, take}
 use Rattle.rules.specs.Numbers.{ending_number, refusal_number}
 use Rattle.rules.specs.Running.{RunCall, RunResult, ran}
+use Rattle.rules.specs.Answers.{Ending}
 use Rattle.rules.specs.declared.State.{State}
 use Rattle.rules.specs.declared.Refusal.TheVariants.{NoRoom}
-use Rattle.rules.specs.declared.Ending.{Ending}
 use Rattle.promises.specs.Calls.{run_of}
 use Rattle.promises.specs.Again.{again}
 

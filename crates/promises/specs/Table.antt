@@ -1,12 +1,11 @@
 -- The thirteen examples of the paper, P1 to P13: each row is an order on a small machine, and what one step makes of it.
 -- Assumes nothing.
-use Rattle.std.specs.Prelude.{ℕ, ◌≡◌, List, [], ◌∷◌, map, false}
+use Rattle.std.specs.Prelude.{ℕ, ◌≡◌, List, [], ◌∷◌, map, false, Some, None}
 use Rattle.rules.specs.Numbers.{outcome_number}
 use Rattle.rules.specs.Drum.{cell_at}
 use Rattle.rules.specs.Machine.{Machine, Answer, present}
 use Rattle.rules.specs.Running.{step}
-use Rattle.rules.specs.declared.Cell.{Cell}
-use Rattle.rules.specs.declared.Cell.TheVariants.{Foreign, Owned}
+use Rattle.rules.specs.Answers.{Cell}
 
 -- what one sees after the step: the number (02: the run goes on), where the next order is, the loop box, and cells 000 and 004, of which
 -- each is owned and has a word, or is not owned
@@ -33,7 +32,7 @@ row p o w a b s = record { example = p; order = o; previous = w; a = a; b = b; w
 abbrev pub machine_of : Row → Machine
 machine_of r =
     record {
-      cells = Owned r.previous ∷ Owned r.order ∷ Owned r.a ∷ Owned r.b ∷ Foreign ∷ [];
+      cells = Some r.previous ∷ Some r.order ∷ Some r.a ∷ Some r.b ∷ None ∷ [];
       sent = [];
       state = record { location = 1; counts = 3 ∷ 1 ∷ 4 ∷ []; counter = 0; problem = 7; reader = 0; mode = 0; tracing = 0 };
     }
@@ -53,15 +52,15 @@ made r = seen_in (step (record { deck = []; room = 0; switches = record { stop =
 
 -- the result is in 000 and in 004, and the next order is in 002
 abbrev pub gives : ℕ → Seen
-gives w = record { number = 2; location = 2; box = 3 ∷ 1 ∷ 4 ∷ []; previous = Owned w; stored = Owned w }
+gives w = record { number = 2; location = 2; box = 3 ∷ 1 ∷ 4 ∷ []; previous = Some w; stored = Some w }
 
 -- the order is undone: 000 holds what it held, and 004 is not owned, so nothing was stored there
 abbrev pub refuses : ℕ → ℕ → Seen
-refuses n w = record { number = n; location = 1; box = 3 ∷ 1 ∷ 4 ∷ []; previous = Owned w; stored = Foreign }
+refuses n w = record { number = n; location = 1; box = 3 ∷ 1 ∷ 4 ∷ []; previous = Some w; stored = None }
 
 -- nothing is stored: 000 holds what it held, and 004 is not owned; the next order and the box are these
 abbrev pub goes : ℕ → List ℕ → ℕ → Seen
-goes l box w = record { number = 2; location = l; box = box; previous = Owned w; stored = Foreign }
+goes l box w = record { number = 2; location = l; box = box; previous = Some w; stored = None }
 
 unfoldable pub rows : List Row
 rows =

@@ -1,16 +1,13 @@
 -- What refusals leave: a refused order is undone but for its trace card, and a call that is refused at its entry changes nothing.
 -- Assumes nothing.
-use Rattle.std.specs.Prelude.{ℕ, ◌≡◌, true}
+use Rattle.std.specs.Prelude.{ℕ, ◌≡◌, true, Err}
 use Rattle.rules.specs.Numbers.{tries_again}
 use Rattle.rules.specs.Drum.{cell_at}
 use Rattle.rules.specs.Machine.{Machine, Inputs}
 use Rattle.rules.specs.Running.{as_done, step, Left, RunCall, not_run, ran}
 use Rattle.rules.specs.Loads.{LoadCall, not_loaded, loaded}
 use Rattle.rules.specs.declared.Refusal.{Refusal}
-use Rattle.rules.specs.declared.Outcome.TheVariants.{Undone}
 use Rattle.rules.specs.declared.Bar.{Bar}
-use Rattle.rules.specs.declared.Ending.TheVariants.{NotRun}
-use Rattle.rules.specs.declared.Loading.TheVariants.{NotLoaded}
 
 -- cells (and so marks), loop box, reader, location, problem number, mode and tracing are as they were; and so the order that comes next
 -- is the same one, and is done the same
@@ -28,7 +25,7 @@ pub record AsBefore (m u : Machine) : Type 0 where
 -- A refused order leaves the machine as it found it; cards and counter too, but for the order's own trace card.
 abbrev pub RefusalUndone : Type 0
 RefusalUndone =
-    (i : Inputs) (m : Machine) (r : Refusal) → (step i m).outcome ≡ Undone r → AsBefore m (step i m).machine × Left m (step i m).machine
+    (i : Inputs) (m : Machine) (r : Refusal) → (step i m).outcome ≡ Err r → AsBefore m (step i m).machine × Left m (step i m).machine
 
 -- Running again after a refusal or after the stop 00 tries the same order.
 abbrev pub SameOrderAgain : Type 0
@@ -36,8 +33,8 @@ SameOrderAgain = (i : Inputs) (m : Machine) → tries_again (step i m).outcome �
 
 -- A load that is refused changes nothing.
 abbrev pub RefusedLoadChangesNothing : Type 0
-RefusedLoadChangesNothing = (c : LoadCall) (b : Bar) → (loaded c).loading ≡ NotLoaded b → loaded c ≡ not_loaded c b
+RefusedLoadChangesNothing = (c : LoadCall) (b : Bar) → (loaded c).loading ≡ Err b → loaded c ≡ not_loaded c b
 
 -- A run that is refused at its entry changes nothing, counts nothing and writes nothing.
 abbrev pub RefusedRunChangesNothing : Type 0
-RefusedRunChangesNothing = (c : RunCall) (b : Bar) → (ran c).ending ≡ NotRun b → ran c ≡ not_run c b
+RefusedRunChangesNothing = (c : RunCall) (b : Bar) → (ran c).ending ≡ Err b → ran c ≡ not_run c b

@@ -1,14 +1,13 @@
 -- Worked sessions, each a deck loaded on an empty drum and run once: what the program then writes. They go through the rules where these
 -- are easily misread. Assumes nothing.
-use Rattle.std.specs.Prelude.{ℕ, ◌≡◌, List, [], ◌∷◌, ◌++◌, map, Bool, true, false, replicate}
+use Rattle.std.specs.Prelude.{ℕ, ◌≡◌, List, [], ◌∷◌, ◌++◌, map, Bool, true, false, replicate, Ok, Err}
 use Prim.Native.String.{String}
 use Rattle.rules.specs.Bytes.{bytes}
 use Rattle.rules.specs.Running.{RunResult, ran}
 use Rattle.rules.specs.Loads.{LoadResult, loaded}
 use Rattle.rules.specs.Sheet.{sheet, load_line}
 use Rattle.rules.specs.States.{no_state}
-use Rattle.rules.specs.declared.Loading.{Loading}
-use Rattle.rules.specs.declared.Loading.TheVariants.{Loaded, NotLoaded}
+use Rattle.rules.specs.Answers.{Loading}
 use Rattle.promises.specs.Calls.{load_of, run_of}
 use Rattle.promises.specs.Session.{empty_drum}
 
@@ -34,8 +33,8 @@ run_in w x =
 
 -- a refused load is told by its line, and there is no run
 abbrev pub run_lines : Worked → LoadResult → Loading → List ℕ
-run_lines w x Loaded = sheet (run_in w x)
-run_lines w x (NotLoaded b) = []
+run_lines w x (Ok _) = sheet (run_in w x)
+run_lines w x (Err b) = []
 
 abbrev pub sheet_of : Worked → List ℕ
 sheet_of w = let x = load_in w in load_line x.loading ++ run_lines w x x.loading

@@ -1,5 +1,6 @@
 -- Words stored in cells upward, and so a block moved: what each cell then is, marks that stay, and that cells which hold words go on to. And
 -- one word more, at either end, as a loop moves a block. Assumes nothing.
+use Rattle.std.proofs.Common.{None, Some}
 use Prim.Native.Nat.{ℕ, zero, suc, ◌+◌, ◌-◌, ◌≤◌, ◌<◌}
 use mathlib.Core.Path.{◌≡◌, refl, sym, ap, ◌∙◌}
 use mathlib.Core.List.{List, [], ◌∷◌, ◌++◌}
@@ -14,8 +15,7 @@ use borrow.Author.Tests.{eqb-true, eqb-false, leb-true}
 use Rattle.rules.specs.Drum.{cell_at, word_at, store}
 use Rattle.rules.specs.Codes.{block_lies, owned_at, owned_from}
 use Rattle.rules.specs.Orders.{words_from, stored_from, cells_moved}
-use Rattle.rules.specs.declared.Cell.{Cell}
-use Rattle.rules.specs.declared.Cell.TheVariants.{Foreign, Owned}
+use Rattle.rules.specs.Answers.{Cell}
 use Rattle.rules.proofs.Tests.{both_first, both_second}
 use Rattle.rules.proofs.Views.{Grows, store_grows}
 use Rattle.rules.proofs.Sound.{Cells, cells_stored}
@@ -25,7 +25,7 @@ use Rattle.rules.proofs.MadeDecks.{word_of}
 pub stored_long : (c : ℕ) (ws : List ℕ) (v : List Cell) → length (stored_from c ws v) ≡ length v
 unfolding stored_from
 stored_long c [] v = refl
-stored_long c (w ∷ ws) v = stored_long (c + 1) ws (store v c w) ∙ length-set v c (Owned w)
+stored_long c (w ∷ ws) v = stored_long (c + 1) ws (store v c w) ∙ length-set v c (Some w)
 
 -- the word of each cell that is stored in, and all other cells
 pub stored_elsewhere : (c : ℕ) (ws : List ℕ) (v : List Cell) (x : ℕ) → (c ≤ x → x < c + length ws → ⊥) → cell_at (stored_from c ws v) x ≡ cell_at v x
@@ -33,19 +33,19 @@ unfolding stored_from
 stored_elsewhere c [] v x f = refl
 stored_elsewhere c (w ∷ ws) v x f =
     stored_elsewhere (c + 1) ws (store v c w) x (λ l k. f (omega arith) (omega arith))
-    ∙ get_or-set_other v c x (Owned w) Foreign (λ e. f (omega arith) (omega arith))
+    ∙ get_or-set_other v c x (Some w) None (λ e. f (omega arith) (omega arith))
 
 pub stored_there : (c : ℕ) (ws : List ℕ) (v : List Cell) (i : ℕ) → c + length ws ≤ length v → i < length ws
-    → cell_at (stored_from c ws v) (c + i) ≡ Owned (get_or ws i 0)
+    → cell_at (stored_from c ws v) (c + i) ≡ Some (get_or ws i 0)
 unfolding stored_from
 stored_there c [] v i l k = let z : ⊥ = omega arith in absurd z
 stored_there c (w ∷ ws) v zero l k =
     ap (cell_at (stored_from (c + 1) ws (store v c w))) (omega arith)
     ∙ stored_elsewhere (c + 1) ws (store v c w) c (λ f g. omega arith)
-    ∙ get_or-set_same v c (Owned w) Foreign (omega arith)
+    ∙ get_or-set_same v c (Some w) None (omega arith)
 stored_there c (w ∷ ws) v (suc i) l k =
     ap (cell_at (stored_from (c + 1) ws (store v c w))) (omega arith)
-    ∙ stored_there (c + 1) ws (store v c w) i (omega (arith, length-set v c (Owned w))) (le_of_suc-le-suc k)
+    ∙ stored_there (c + 1) ws (store v c w) i (omega (arith, length-set v c (Some w))) (le_of_suc-le-suc k)
 
 -- ---- marks and words
 
@@ -82,7 +82,7 @@ pub stored_first : (a c : ℕ) (ws : List ℕ) (w : ℕ) (v : List Cell) → a <
 unfolding stored_from
 stored_first a c [] w v l = refl
 stored_first a c (x ∷ ws) w v l =
-    ap (stored_from (c + 1) ws) (set_comm v a c (Owned w) (Owned x) (λ e. omega arith)) ∙ stored_first a (c + 1) ws w (store v c x) (omega arith)
+    ap (stored_from (c + 1) ws) (set_comm v a c (Some w) (Some x) (λ e. omega arith)) ∙ stored_first a (c + 1) ws w (store v c x) (omega arith)
 
 -- ---- a block
 
@@ -115,9 +115,9 @@ pub moved_elsewhere : (v : List Cell) (n b c x : ℕ) → (c ≤ x → x < c + n
 moved_elsewhere v n b c x f = stored_elsewhere c (words_from v b n) v x (λ l k. f l (omega (arith, words_long v b n)))
 
 -- each cell that is moved to is what its source was, where that is marked
-pub moved_there : (v : List Cell) (n b c k : ℕ) → c + n ≤ length v → k < n → cell_at (cells_moved v n b c) (c + k) ≡ Owned (word_at v (b + k))
+pub moved_there : (v : List Cell) (n b c k : ℕ) → c + n ≤ length v → k < n → cell_at (cells_moved v n b c) (c + k) ≡ Some (word_at v (b + k))
 moved_there v n b c k l f =
-    stored_there c (words_from v b n) v k (omega (arith, words_long v b n)) (omega (arith, words_long v b n)) ∙ ap Owned (word_of v b n k f)
+    stored_there c (words_from v b n) v k (omega (arith, words_long v b n)) (omega (arith, words_long v b n)) ∙ ap Some (word_of v b n k f)
 
 -- ---- where a block may lie, and its marks
 

@@ -1,5 +1,6 @@
 -- Which cells go on which card of a deck that is made. A card has the marked cells from its first on, up to five; where it has fewer, the
 -- next cell is unmarked. So no five neighbours that are all marked hold the first cells of two of the cards. Assumes nothing.
+use Rattle.std.proofs.Common.{None, Some}
 use Prim.Native.Nat.{ℕ, zero, suc, ◌+◌, ◌-◌, ◌≤◌, ◌<◌}
 use native.Mathlib.Omega.{arith}
 use mathlib.Core.Path.{◌≡◌, refl, sym, ap, subst, ◌∙◌}
@@ -12,19 +13,18 @@ use Rattle.rules.specs.Words.{pick}
 use Rattle.rules.specs.Drum.{is_owned, shown}
 use Rattle.rules.specs.Codes.{owned_at}
 use Rattle.rules.specs.Making.{neighbours, Block, blocks_from, blocks_in}
-use Rattle.rules.specs.declared.Cell.{Cell}
-use Rattle.rules.specs.declared.Cell.TheVariants.{Foreign, Owned}
+use Rattle.rules.specs.Answers.{Cell}
 use Rattle.rules.proofs.Tests.{false_true}
 
 -- ---- marked and unmarked
 
-pub owned_is : (c : Cell) → is_owned c ≡ true → Owned (shown c) ≡ c
-owned_is Foreign e = false_true e
-owned_is (Owned w) e = refl
+pub owned_is : (c : Cell) → is_owned c ≡ true → Some (shown c) ≡ c
+owned_is None e = false_true e
+owned_is (Some w) e = refl
 
-pub foreign_is : (c : Cell) → is_owned c ≡ false → c ≡ Foreign
-foreign_is Foreign e = refl
-foreign_is (Owned w) e = false_true (sym e)
+pub foreign_is : (c : Cell) → is_owned c ≡ false → c ≡ None
+foreign_is None e = refl
+foreign_is (Some w) e = false_true (sym e)
 
 -- no cell behind the last is marked
 pub owned_inside : (v : List Cell) (x : ℕ) → owned_at v x ≡ true → x < length v
@@ -32,7 +32,7 @@ owned_inside v x e = by_place (ltb x (length v)) refl
   where
     by_place : (t : Bool) → ltb x (length v) ≡ t → x < length v
     by_place true f = ltb-true x (length v) f
-    by_place false f = false_true (sym (ap is_owned (get_or-eq_default v Foreign (ltb-false x (length v) f))) ∙ e)
+    by_place false f = false_true (sym (ap is_owned (get_or-eq_default v None (ltb-false x (length v) f))) ∙ e)
 
 -- ---- neighbours
 

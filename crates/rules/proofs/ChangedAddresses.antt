@@ -1,5 +1,6 @@
 -- Address changes on a few cells, computed on the definitions, at the edges of what they are: how far a sum carries, which sign it leaves, what
 -- the ten digits do not hold, which refusal comes first; and what the base makes of the same. Assumes nothing.
+use Rattle.std.proofs.Common.{None, Some}
 use Prim.Native.Nat.{ℕ}
 use mathlib.Core.Path.{◌≡◌, refl}
 use mathlib.Core.List.{List, [], ◌∷◌}
@@ -9,13 +10,12 @@ use Rattle.rules.specs.Machine.{Machine, Requests, present, without_carries}
 use Rattle.rules.specs.Orders
 use Rattle.rules.specs.Running
 use Rattle.rules.specs.Running.{step}
-use Rattle.rules.specs.declared.Cell.{Cell}
-use Rattle.rules.specs.declared.Cell.TheVariants.{Foreign, Owned}
+use Rattle.rules.specs.Answers.{Cell}
 use Rattle.rules.proofs.MovedBlocks.{Seen, seen_in}
 
 -- The order w stands in 001, the word y in 002, and 003 is not owned. The box has counts for B and C, so that a minus order gets them.
 abbrev pub cells_with : ℕ → ℕ → List Cell
-cells_with w y = Owned 0000000005 ∷ Owned w ∷ Owned y ∷ Foreign ∷ []
+cells_with w y = Some 0000000005 ∷ Some w ∷ Some y ∷ None ∷ []
 
 abbrev pub machine_of : ℕ → ℕ → Machine
 machine_of w y =

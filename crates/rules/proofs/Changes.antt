@@ -1,4 +1,5 @@
 -- What an address change answers, by either rule: a word, or a refusal that is not for want of room. Assumes nothing.
+use Rattle.std.proofs.Common.{Err, Ok}
 use Prim.Native.Nat.{ℕ, ◌+◌, ◌-◌, ◌≤◌}
 use mathlib.Core.Path.{◌≡◌, refl}
 use mathlib.Core.Bool.{Bool, true, false}
@@ -11,7 +12,6 @@ use Rattle.rules.specs.declared.Address.{Address}
 use Rattle.rules.specs.declared.Address.TheVariants.{OfA, OfB, OfC}
 use Rattle.rules.specs.declared.Changing.{Changing}
 use Rattle.rules.specs.declared.Changing.TheVariants.{SetTo, AddTo, SubFrom}
-use Rattle.rules.specs.declared.Reckoned.TheVariants.{Result, Refused}
 use Rattle.rules.specs.declared.Refusal.TheVariants.{BadAddress}
 use Rattle.rules.proofs.Results.{Fits}
 use Rattle.rules.proofs.Refusals.{OfReckoned}
@@ -35,14 +35,14 @@ signed w d l k = omega arith
 raised_fits : (w n : ℕ) → w ≤ 19999999999 → Fits (raised_by w n)
 raised_fits w n l = by_test (leb (digits_in w + n) 9999999999) refl
   where
-    by_test : (t : Bool) → leb (digits_in w + n) 9999999999 ≡ t → Fits (pick t (Result (with_digits w (digits_in w + n))) (Refused BadAddress))
+    by_test : (t : Bool) → leb (digits_in w + n) 9999999999 ≡ t → Fits (pick t (Ok (with_digits w (digits_in w + n))) (Err BadAddress))
     by_test true e = signed w (digits_in w + n) l (leb-true (digits_in w + n) 9999999999 e)
     by_test false e = tt
 
 lowered_fits : (w n : ℕ) → w ≤ 19999999999 → Fits (lowered_by w n)
 lowered_fits w n l = by_test (leb n (digits_in w))
   where
-    by_test : (t : Bool) → Fits (pick t (Result (with_digits w (digits_in w - n))) (Refused BadAddress))
+    by_test : (t : Bool) → Fits (pick t (Ok (with_digits w (digits_in w - n))) (Err BadAddress))
     by_test true = signed w (digits_in w - n) l (omega arith)
     by_test false = tt
 
@@ -57,7 +57,7 @@ changed_fits false k x w c l j = swapped x w (new_address k (address_in x w) c) 
 
 -- ---- refusals
 
-if_held : (t : Bool) (w : ℕ) → OfReckoned (pick t (Result w) (Refused BadAddress))
+if_held : (t : Bool) (w : ℕ) → OfReckoned (pick t (Ok w) (Err BadAddress))
 if_held true w = tt
 if_held false w = tt
 

@@ -1,5 +1,6 @@
 -- A deck cut into its cards, card by card: what comes of the cards from a place on, and of their check, by the card that begins there.
 -- Assumes nothing.
+use Rattle.std.proofs.Common.{Err}
 use Prim.Native.Nat.{ℕ, zero, suc, ◌+◌, ◌*◌, ◌≤◌, ◌<◌}
 use native.Mathlib.Omega.{arith}
 use mathlib.Core.Path.{◌≡◌, refl, ap, ◌∙◌}
@@ -8,12 +9,11 @@ use lib.ListN.{length, drop, length-drop, drop_of_length-le}
 use lib.Seq.{drop-drop}
 use Rattle.rules.specs.Cards.{first_size, card_of, word_in, word_place}
 use Rattle.rules.specs.Decks.{card_at, card_size, Piece, cut_from, cards_from, met, checked_from, data_in, data_from}
+use Rattle.rules.specs.Answers.{Deck, good}
 use Rattle.rules.specs.declared.Fault.{Fault}
 use Rattle.rules.specs.declared.Card.{Card}
 use Rattle.rules.specs.declared.Card.TheVariants.{Data, First, Bad, End}
 use Rattle.rules.specs.declared.DeckFault.TheVariants.{At}
-use Rattle.rules.specs.declared.Deck.{Deck}
-use Rattle.rules.specs.declared.Deck.TheVariants.{Good, Faulty}
 use Rattle.rules.proofs.CardTrips.{data_read}
 use Rattle.rules.proofs.Fields.{word_below}
 
@@ -105,7 +105,7 @@ data_none deck at = none_in at (drop at deck)
 -- it ends at a card with a fault, and else goes on behind the card that is met
 module _ (deck : List ℕ) (at : ℕ) (sofar : Deck) where
   pub from_bad : at < length deck → (f : Fault) (b : ℕ) → met sofar (piece at (drop at deck)) ≡ Bad f b
-      → checked_from sofar (cards_from deck at) ≡ Faulty (At at f (at + b))
+      → checked_from sofar (cards_from deck at) ≡ Err (At at f (at + b))
   unfolding checked_from
   from_bad here f b e = ap (checked_from sofar) (cards_some deck at here).1 ∙ rw (e, checked_from)
 
@@ -117,6 +117,6 @@ module _ (deck : List ℕ) (at : ℕ) (sofar : Deck) where
         ap (checked_from sofar) (cards_next deck at size (ap card_size e) (data_at deck at e).long) ∙ rw (m ∙ e, checked_from)
 
     pub from_first : {order problem : ℕ} → card_at deck at ≡ First order problem
-        → checked_from sofar (cards_from deck at) ≡ checked_from (Good (at + first_size) order problem) (cards_from deck (at + first_size))
+        → checked_from sofar (cards_from deck at) ≡ checked_from (good (at + first_size) order problem) (cards_from deck (at + first_size))
     unfolding checked_from
     from_first e = ap (checked_from sofar) (cards_next deck at first_size (ap card_size e) (omega arith)) ∙ rw (m ∙ e, checked_from)

@@ -1,4 +1,5 @@
 -- A call of run: what its entry checks found, and what then holds of the run that is made and of each run's result. Assumes nothing.
+use Rattle.std.proofs.Common.{Err, Ok}
 use Prim.Native.Nat.{ℕ, ◌≤◌}
 use mathlib.Core.Path.{◌≡◌, refl, sym, ◌∙◌}
 use mathlib.Core.Bool.{Bool, true, false}
@@ -10,8 +11,7 @@ use Rattle.rules.specs.Drum.{view, drum_fits}
 use Rattle.rules.specs.Decks.{deck_of}
 use Rattle.rules.specs.Machine.{Requests, present}
 use Rattle.rules.specs.Running.{Course, run_from, RunCall, RunResult, not_run, begun, inputs_by, inputs, state_fits, ran_as, ran_on, ran_by, ran}
-use Rattle.rules.specs.declared.Deck.{Deck}
-use Rattle.rules.specs.declared.Deck.TheVariants.{Good, Faulty}
+use Rattle.rules.specs.Answers.{Deck, good}
 use Rattle.rules.specs.declared.Bar.{Bar}
 use Rattle.rules.specs.declared.Bar.TheVariants.{BadDrum, BadDeck, BadState}
 use Rattle.rules.proofs.Views.{Fit, fit, length-view}
@@ -27,7 +27,7 @@ pub record Entered (c : RunCall) : Type 0 where
   pub first : ℕ
   pub order : ℕ
   pub problem : ℕ
-  pub deck_good : deck_of c.deck ≡ Good first order problem
+  pub deck_good : deck_of c.deck ≡ good first order problem
   pub state_fits_lem : state_fits (view c.drum c.marks) c.deck first c.state c.budget ≡ true
 
 -- the run that is then made, by these requests and by all
@@ -40,7 +40,7 @@ course c = course_by present c
 -- What is said of a run's results, by all kinds of requests, where no run is made, and where one is made, is said of each.
 module _ (P : (Requests → RunResult) → Type 0) (c : RunCall) (not : (b : Bar) → P (λ q. not_run c b)) (did : Entered c → P (λ q. ran_as c (course_by q c))) where
   by_state : (first order problem : ℕ) → drum_fits (length c.drum) c.marks (view c.drum c.marks) ≡ true
-      → deck_of c.deck ≡ Good first order problem
+      → deck_of c.deck ≡ good first order problem
       → (t : Bool) → state_fits (view c.drum c.marks) c.deck first c.state c.budget ≡ t
       → P (λ q. pick t (ran_as c (course_by q c)) (not_run c BadState))
   by_state first order problem d g true e =
@@ -49,9 +49,9 @@ module _ (P : (Requests → RunResult) → Type 0) (c : RunCall) (not : (b : Bar
 
   by_deck : drum_fits (length c.drum) c.marks (view c.drum c.marks) ≡ true → (d : Deck) → deck_of c.deck ≡ d → P (λ q. ran_on q c d)
   unfolding ran_on
-  by_deck f (Faulty x) g = not (BadDeck x)
-  by_deck f (Good first order problem) g =
-      by_state first order problem f g (state_fits (view c.drum c.marks) c.deck first c.state c.budget) refl
+  by_deck f (Err x) g = not (BadDeck x)
+  by_deck f (Ok start) g =
+      by_state start.behind start.order start.problem f g (state_fits (view c.drum c.marks) c.deck start.behind c.state c.budget) refl
 
   by_drum : (t : Bool) → drum_fits (length c.drum) c.marks (view c.drum c.marks) ≡ t
       → P (λ q. pick t (ran_on q c (deck_of c.deck)) (not_run c BadDrum))

@@ -1,5 +1,6 @@
 -- Which order is refused for want of room, and how much an order writes: the trace card, and in plain mode PCH, whose largest block takes
 -- 13,189 bytes. By a walk over all orders. Assumes nothing.
+use Rattle.std.proofs.Common.{Err, None, Ok, Some}
 use Prim.Native.Nat.{ℕ, ◌+◌, ◌-◌, ◌≤◌, ◌<◌}
 use mathlib.Core.Path.{◌≡◌, refl, sym, ap, subst, ◌∙◌}
 use mathlib.Core.List.{List}
@@ -16,26 +17,16 @@ use Rattle.rules.specs.Codes.{codes, lookup, checked}
 use Rattle.rules.specs.Machine.{Machine, Inputs, Answer, counting, clear_box, with_state, going_to, is_traced, is_tracing, onward, done, undone}
 use Rattle.rules.specs.Orders.{reckoned_by, stops_by_loss, reckoned, cond_stopped, gone, largest, raised, looped, changed_word, changed, cards_punched, punch_size, punched, read, retraced, performed}
 use Rattle.rules.specs.Running.{allowed, obeyed_as, code_done, obeyed, as_done, order_fits, trace_words, trace_sent, trace_size, traced, fetched, step}
-use Rattle.rules.specs.declared.Cell.{Cell}
-use Rattle.rules.specs.declared.Cell.TheVariants.{Foreign, Owned}
-use Rattle.rules.specs.declared.Reckoned.{Reckoned}
-use Rattle.rules.specs.declared.Reckoned.TheVariants.{Result, Refused}
-use Rattle.rules.specs.declared.Judged.{Judged}
-use Rattle.rules.specs.declared.Judged.TheVariants.{Fits, Fails}
+use Rattle.rules.specs.Answers.{Built, Cell, Checked, Judged, Outcome, Reckoned}
 use Rattle.rules.specs.declared.Refusal.{Refusal}
 use Rattle.rules.specs.declared.Refusal.TheVariants.{BadAddress, Unmarked, NoRoom, NotBuilt}
-use Rattle.rules.specs.declared.Checked.{Checked}
-use Rattle.rules.specs.declared.Checked.TheVariants.{Passes, Refuses}
-use Rattle.rules.specs.declared.Built.{Built}
-use Rattle.rules.specs.declared.Built.TheVariants.{As, No}
-use Rattle.rules.specs.declared.Outcome.{Outcome}
-use Rattle.rules.specs.declared.Outcome.TheVariants.{GoesOn, Undone}
 use Rattle.rules.specs.declared.Operation.{Operation}
 use Rattle.rules.specs.declared.Operation.TheVariants.{Reckon, Move, Go, Loop, Change, Read, Pch, Trace, MoveBlock, Compare}
 use Rattle.rules.specs.declared.Going.{Going}
 use Rattle.rules.specs.declared.Going.TheVariants.{UncStop, CondStop, TrSgn, TrExp, Tr, TrSubr, Noop}
 use Rattle.rules.specs.declared.Tracing.{Tracing}
 use Rattle.rules.specs.declared.Tracing.TheVariants.{StartTr, StopTr, StTrEras}
+use Rattle.rules.specs.declared.Done.TheVariants.{GoesOn}
 use Rattle.rules.proofs.Tests.{false_true}
 use Rattle.rules.proofs.Refusals.{Other, OfReckoned, OfChecked, OfJudged, OfOutcome, reckoned_other, checked_other, judged_other}
 use Rattle.rules.proofs.Changes.{changed_other}
@@ -52,10 +43,10 @@ most_sent = 13189
 
 -- p: whether it is PCH
 record Writes (i : Inputs) (m : Machine) (p : Bool) (x : Answer) : Type 0 where
-  full : x.outcome ≡ Undone NoRoom → (p ≡ true) × (i.room < length m.sent + most_sent)
+  full : x.outcome ≡ Err NoRoom → (p ≡ true) × (i.room < length m.sent + most_sent)
   more : length x.machine.sent ≤ length m.sent + pick p most_sent 0
 
-never_full : {A : Type 0} (o : Outcome) → OfOutcome o → o ≡ Undone NoRoom → A
+never_full : {A : Type 0} (o : Outcome) → OfOutcome o → o ≡ Err NoRoom → A
 never_full o h e = absurd (subst OfOutcome e h)
 
 module _ (i : Inputs) where
@@ -64,13 +55,13 @@ module _ (i : Inputs) where
   quiet m p x h e = record { full = never_full x.outcome h; more = omega (arith, ap length e) }
 
   reckoned_writes : (t : Bool) (m : Machine) (c : ℕ) (r : Reckoned) → OfReckoned r → Writes i m false (reckoned t m c r)
-  reckoned_writes true m c (Result w) h = quiet m false _ tt refl
-  reckoned_writes false m c (Result w) h = quiet m false _ tt refl
-  reckoned_writes t m c (Refused r) h = quiet m false _ h refl
+  reckoned_writes true m c (Ok w) h = quiet m false _ tt refl
+  reckoned_writes false m c (Ok w) h = quiet m false _ tt refl
+  reckoned_writes t m c (Err r) h = quiet m false _ h refl
 
   changed_writes : (m : Machine) (b : ℕ) (r : Reckoned) → OfReckoned r → Writes i m false (changed m b r)
-  changed_writes m b (Result w) h = quiet m false _ tt refl
-  changed_writes m b (Refused r) h = quiet m false _ h refl
+  changed_writes m b (Ok w) h = quiet m false _ tt refl
+  changed_writes m b (Err r) h = quiet m false _ h refl
 
   cond_writes : (t : Bool) (m : Machine) (b c : ℕ) → Writes i m false (cond_stopped t m b c)
   cond_writes true m b c = quiet m false _ tt refl
@@ -87,8 +78,8 @@ module _ (i : Inputs) where
   gone_writes m Noop b c = quiet m false _ tt refl
 
   read_writes : (m : Machine) (j : Judged) → OfJudged j → Writes i m false (read i m j)
-  read_writes m (Fits end) h = quiet m false _ tt refl
-  read_writes m (Fails r) h = quiet m false _ h refl
+  read_writes m (Ok end) h = quiet m false _ tt refl
+  read_writes m (Err r) h = quiet m false _ h refl
 
   looped_writes : (m : Machine) (x y z : Bool) (b c : ℕ) → Writes i m false (done (looped m x y z b c))
   looped_writes m x y z b c = quiet m false _ tt (go (ltb (largest m.state x y z) b))
@@ -110,7 +101,7 @@ module _ (i : Inputs) where
       by_room : (t : Bool) → leb (length m.sent + punch_size n) i.room ≡ t
           → Writes i m true (pick t (done (onward (cards_punched n m b n))) (undone NoRoom m))
       by_room true e =
-          record { full = never_full GoesOn tt; more = omega (arith, cards_long n m b n (omega arith)) }
+          record { full = never_full (Ok GoesOn) tt; more = omega (arith, cards_long n m b n (omega arith)) }
       by_room false e =
           record {
             full = λ z. (refl, omega (arith, leb-false (length m.sent + punch_size n) i.room e));
@@ -135,19 +126,19 @@ module _ (i : Inputs) where
   performed_writes m MoveBlock a b c f l = quiet m false _ tt refl
   performed_writes m (Compare x) a b c f l = quiet m false _ tt refl
 
-  allowed_writes : (m : Machine) (o : Operation) (a b c : ℕ) (k : Checked) → OfChecked k → (k ≡ Passes → is_pch o ≡ true → 1 ≤ b) → c ≤ 999
+  allowed_writes : (m : Machine) (o : Operation) (a b c : ℕ) (k : Checked) → OfChecked k → (k ≡ (Ok tt) → is_pch o ≡ true → 1 ≤ b) → c ≤ 999
       → Writes i m (is_pch o) (allowed i m o a b c k)
-  allowed_writes m o a b c Passes h f l = performed_writes m o a b c (f refl) l
-  allowed_writes m o a b c (Refuses r) h f l = quiet m (is_pch o) _ h refl
+  allowed_writes m o a b c (Ok _) h f l = performed_writes m o a b c (f refl) l
+  allowed_writes m o a b c (Err r) h f l = quiet m (is_pch o) _ h refl
 
   -- in traced mode, nothing
   record Obeys (m : Machine) (x : Answer) : Type 0 where
-    full : x.outcome ≡ Undone NoRoom → (is_traced m.state ≡ false) × (i.room < length m.sent + most_sent)
+    full : x.outcome ≡ Err NoRoom → (is_traced m.state ≡ false) × (i.room < length m.sent + most_sent)
     more : length x.machine.sent ≤ length m.sent + pick (is_traced m.state) 0 most_sent
 
   as_obeys : (m : Machine) (w a b c : ℕ) → c ≤ 999 → (k : Built) → lookup (code_done (is_traced m.state) w) codes ≡ k → Obeys m (obeyed_as i m a b c k)
-  as_obeys m w a b c l No e = record { full = never_full (Undone NotBuilt) tt; more = omega arith }
-  as_obeys m w a b c l (As o k) e =
+  as_obeys m w a b c l None e = record { full = never_full (Err NotBuilt) tt; more = omega arith }
+  as_obeys m w a b c l (Some (o, k)) e =
       let f = lookup_suits (code_done (is_traced m.state) w) codes all_suit_lem o k e in
       let x = allowed i m o a b c (checked k m.cells a b c) in
       let h : Writes i m (is_pch o) x =
@@ -172,11 +163,11 @@ module _ (i : Inputs) where
 
   -- an order that is refused for want of room leaves the machine as it was, and there was less room than any order can need
   pub record Stepped (m : Machine) (x : Answer) : Type 0 where
-    pub full : x.outcome ≡ Undone NoRoom → (x.machine ≡ m) × (i.room < length m.sent + most_sent)
+    pub full : x.outcome ≡ Err NoRoom → (x.machine ≡ m) × (i.room < length m.sent + most_sent)
     pub more : length x.machine.sent ≤ length m.sent + most_sent
 
   still : (m : Machine) (r : Refusal) → Other r → Stepped m (undone r m)
-  still m r h = record { full = never_full (Undone r) h; more = omega arith }
+  still m r h = record { full = never_full (Err r) h; more = omega arith }
 
   either_stepped : (m : Machine) (t : Bool) (x y : Answer) → Stepped m x → Stepped m y → Stepped m (pick t x y)
   either_stepped m true x y p q = p
@@ -212,8 +203,8 @@ module _ (i : Inputs) where
 
   fetched_stepped : (m : Machine) (x : Cell) → TracedOnly m → Stepped m (fetched i m x)
   unfolding fetched
-  fetched_stepped m Foreign f = still m Unmarked tt
-  fetched_stepped m (Owned w) f =
+  fetched_stepped m None f = still m Unmarked tt
+  fetched_stepped m (Some w) f =
       either_stepped m (order_fits m.state w) (traced i m w (as_done m.state w)) (undone BadAddress m) (traced_stepped m w (as_done m.state w) f)
       (still m BadAddress tt)
 

@@ -1,4 +1,5 @@
 -- A mark once set stays: no order, run or load takes one away, since the one change of cells is a store. Assumes nothing.
+use Rattle.std.proofs.Common.{Err, None, Ok, Some}
 use Prim.Native.Nat.{ℕ, zero, suc, ◌+◌, ◌-◌}
 use mathlib.Core.Path.{◌≡◌, refl, sym, subst}
 use mathlib.Core.List.{List, [], ◌∷◌}
@@ -14,17 +15,8 @@ use Rattle.rules.specs.Codes.{codes, lookup, checked}
 use Rattle.rules.specs.Machine.{Machine, Inputs, Answer, counting, clear_box, is_traced, is_tracing, with_state, going_to, onward, done, undone}
 use Rattle.rules.specs.Orders.{reckoned_by, stops_by_loss, reckoned, cond_stopped, gone, largest, raised, changed_word, changed, five, card_punched, cards_punched, punch_size, punched, words_from, read, erased, retraced, performed}
 use Rattle.rules.specs.Running.{allowed, obeyed_as, code_done, obeyed, as_done, order_fits, trace_sent, trace_size, traced, fetched, step, run_from}
-use Rattle.rules.specs.declared.Cell.{Cell}
-use Rattle.rules.specs.declared.Cell.TheVariants.{Foreign, Owned}
-use Rattle.rules.specs.declared.Reckoned.{Reckoned}
-use Rattle.rules.specs.declared.Reckoned.TheVariants.{Result, Refused}
-use Rattle.rules.specs.declared.Judged.{Judged}
-use Rattle.rules.specs.declared.Judged.TheVariants.{Fits, Fails}
+use Rattle.rules.specs.Answers.{Built, Cell, Checked, Judged, Reckoned}
 use Rattle.rules.specs.declared.Refusal.TheVariants.{BadAddress, NoRoom}
-use Rattle.rules.specs.declared.Checked.{Checked}
-use Rattle.rules.specs.declared.Checked.TheVariants.{Passes, Refuses}
-use Rattle.rules.specs.declared.Built.{Built}
-use Rattle.rules.specs.declared.Built.TheVariants.{As, No}
 use Rattle.rules.specs.declared.Operation.{Operation}
 use Rattle.rules.specs.declared.Operation.TheVariants.{Reckon, Move, Go, Loop, Change, Read, Pch, Trace, MoveBlock, Compare}
 use Rattle.rules.specs.declared.Going.{Going}
@@ -53,12 +45,12 @@ result_grows : (v : List Cell) (c w : ℕ) → Grows v (store (store v c w) 0 w)
 result_grows v c w k e = store_grows v c w k (store_grows (store v c w) 0 w k e)
 
 reckoned_grows : (t : Bool) (m : Machine) (c : ℕ) (r : Reckoned) → Grows m.cells (reckoned t m c r).machine.cells
-reckoned_grows t m c (Result w) = result_grows m.cells c w
-reckoned_grows t m c (Refused r) = same m.cells
+reckoned_grows t m c (Ok w) = result_grows m.cells c w
+reckoned_grows t m c (Err r) = same m.cells
 
 changed_grows : (m : Machine) (b : ℕ) (r : Reckoned) → Grows m.cells (changed m b r).machine.cells
-changed_grows m b (Result w) = store_grows m.cells b w
-changed_grows m b (Refused r) = same m.cells
+changed_grows m b (Ok w) = store_grows m.cells b w
+changed_grows m b (Err r) = same m.cells
 
 words_grow : (d : List ℕ) (l n : ℕ) (v : List Cell) → Grows v (words_stored d l n v)
 unfolding words_stored
@@ -77,8 +69,8 @@ cards_grow end (x ∷ ks) v =
     go u g false = same v
 
 read_grows : (i : Inputs) (m : Machine) (j : Judged) → Grows m.cells (read i m j).machine.cells
-read_grows i m (Fits end) = cards_grow end (data_from i.deck m.state.reader) m.cells
-read_grows i m (Fails r) = same m.cells
+read_grows i m (Ok end) = cards_grow end (data_from i.deck m.state.reader) m.cells
+read_grows i m (Err r) = same m.cells
 
 -- ---- what only punches or moves on
 
@@ -138,12 +130,12 @@ performed_grows i m (Compare x) a b c = same m.cells
 -- ---- a whole order, and a run
 
 allowed_grows : (i : Inputs) (m : Machine) (o : Operation) (a b c : ℕ) (k : Checked) → Grows m.cells (allowed i m o a b c k).machine.cells
-allowed_grows i m o a b c Passes = performed_grows i m o a b c
-allowed_grows i m o a b c (Refuses r) = same m.cells
+allowed_grows i m o a b c (Ok _) = performed_grows i m o a b c
+allowed_grows i m o a b c (Err r) = same m.cells
 
 as_grows : (i : Inputs) (m : Machine) (a b c : ℕ) (k : Built) → Grows m.cells (obeyed_as i m a b c k).machine.cells
-as_grows i m a b c No = same m.cells
-as_grows i m a b c (As o k) = allowed_grows i m o a b c (checked k m.cells a b c)
+as_grows i m a b c None = same m.cells
+as_grows i m a b c (Some (o, k)) = allowed_grows i m o a b c (checked k m.cells a b c)
 
 obeyed_grows : (i : Inputs) (m : Machine) (w : ℕ) → Grows m.cells (obeyed i m w).machine.cells
 unfolding obeyed
@@ -161,8 +153,8 @@ traced_grows i m w w' =
 
 fetched_grows : (i : Inputs) (m : Machine) (x : Cell) → Grows m.cells (fetched i m x).machine.cells
 unfolding fetched
-fetched_grows i m Foreign = same m.cells
-fetched_grows i m (Owned w) =
+fetched_grows i m None = same m.cells
+fetched_grows i m (Some w) =
     answer_grows m.cells (order_fits m.state w) (traced i m w (as_done m.state w)) (undone BadAddress m)
     (traced_grows i m w (as_done m.state w)) (same m.cells)
 

@@ -1,4 +1,5 @@
 pub mod Tests
+pub mod Sides
 pub mod Views
 pub mod Undone
 pub mod BlockMoves
@@ -24,6 +25,7 @@ pub mod Refusals
 pub mod Changes
 pub mod States
 pub mod Agreed
+pub mod OneAnswer
 pub mod Tails
 pub mod Readers
 pub mod Sound

@@ -1,6 +1,7 @@
 -- What storing the cards of a deck that is made gives. The cards pass no marked cell and take none that is not marked; so where they bear
 -- their words, each marked cell gets its word and all others are as they were. And what a cell is by its mark and its number.
 -- Assumes nothing.
+use Rattle.std.proofs.Common.{None, Some}
 use Prim.Native.Nat.{ℕ, zero, suc, ◌+◌, ◌-◌, ◌≤◌, ◌<◌}
 use mathlib.Core.Path.{◌≡◌, refl, sym, ap, subst, ◌∙◌}
 use mathlib.Core.List.{List, [], ◌∷◌}
@@ -16,8 +17,7 @@ use Rattle.rules.specs.Cards.{word_in, word_place}
 use Rattle.rules.specs.Decks.{DataCard, words_stored, cards_stored}
 use Rattle.rules.specs.Codes.{owned_at}
 use Rattle.rules.specs.Making.{Block, blocks_in}
-use Rattle.rules.specs.declared.Cell.{Cell}
-use Rattle.rules.specs.declared.Cell.TheVariants.{Foreign, Owned}
+use Rattle.rules.specs.Answers.{Cell}
 use Rattle.rules.proofs.Tests.{false_true}
 use Rattle.rules.proofs.Blocks.{owned_is, foreign_is, owned_inside, Run, run_inside, Cut, no_steps, passes, takes, all_ahead}
 
@@ -32,23 +32,23 @@ words_elsewhere : (d : List ℕ) (l n : ℕ) (v : List Cell) (x : ℕ) → (l �
 unfolding words_stored
 words_elsewhere d l zero v x f = refl
 words_elsewhere d l (suc n) v x f =
-    get_or-set_other (words_stored d l n v) (l + n) x _ Foreign (λ e. f (omega arith) (omega arith))
+    get_or-set_other (words_stored d l n v) (l + n) x _ None (λ e. f (omega arith) (omega arith))
     ∙ words_elsewhere d l n v x (λ g h. f g (omega arith))
 
 words_there : (d : List ℕ) (l n : ℕ) (v : List Cell) (i : ℕ) → l + n ≤ length v → i < n
-    → cell_at (words_stored d l n v) (l + i) ≡ Owned (word_in d (word_place i))
+    → cell_at (words_stored d l n v) (l + i) ≡ Some (word_in d (word_place i))
 unfolding words_stored
 words_there d l zero v i g h = let z : ⊥ = omega arith in absurd z
 words_there d l (suc n) v i g h = by_last (eqb i n) refl (words_there d l n v i (omega arith))
   where
-    by_last : (t : Bool) → eqb i n ≡ t → (i < n → cell_at (words_stored d l n v) (l + i) ≡ Owned (word_in d (word_place i)))
-        → cell_at (words_stored d l (suc n) v) (l + i) ≡ Owned (word_in d (word_place i))
+    by_last : (t : Bool) → eqb i n ≡ t → (i < n → cell_at (words_stored d l n v) (l + i) ≡ Some (word_in d (word_place i)))
+        → cell_at (words_stored d l (suc n) v) (l + i) ≡ Some (word_in d (word_place i))
     by_last true e r =
-        subst (λ (j : ℕ). cell_at (words_stored d l (suc n) v) (l + j) ≡ Owned (word_in d (word_place j))) (sym (eqb-true i n e))
-        (get_or-set_same (words_stored d l n v) (l + n) _ Foreign (omega (arith, words_long d l n v)))
+        subst (λ (j : ℕ). cell_at (words_stored d l (suc n) v) (l + j) ≡ Some (word_in d (word_place j))) (sym (eqb-true i n e))
+        (get_or-set_same (words_stored d l n v) (l + n) _ None (omega (arith, words_long d l n v)))
     by_last false e r =
         let q = eqb-false i n e in
-        get_or-set_other (words_stored d l n v) (l + n) (l + i) _ Foreign (λ z. q (omega arith)) ∙ r (omega arith)
+        get_or-set_other (words_stored d l n v) (l + n) (l + i) _ None (λ z. q (omega arith)) ∙ r (omega arith)
 
 -- ---- the cards of blocks, stored
 
@@ -92,7 +92,7 @@ module _ {v new : List Cell} {a n end x : ℕ} {k : DataCard} (h : Run v a n 5) 
       let t : a + i ≡ x = omega arith in
       ap (cell_at (one_stored k old)) (sym s)
       ∙ words_there k.rest k.location k.words old i (omega arith) (omega arith)
-      ∙ ap Owned (c.has i (omega arith) ∙ ap (word_at v) t)
+      ∙ ap Some (c.has i (omega arith) ∙ ap (word_at v) t)
       ∙ owned_is (cell_at v x) (h.owned x p q)
 
   one_laid : Laid v old new a x
@@ -133,16 +133,16 @@ cards_laid {end = end} (takes s h c) l (one_card {k = k} {ks = ks} b cs) old lon
 -- what the cells are once a deck made of v is loaded where none was marked
 pub record Given (v new : List Cell) : Type 0 where
   pub long : length new ≡ 1000
-  pub zero_is : cell_at new 0 ≡ Owned 0
+  pub zero_is : cell_at new 0 ≡ Some 0
   pub others : (x : ℕ) → 1 ≤ x → cell_at new x ≡ cell_at v x
 
 pub given_back : (v old : List Cell) {end : ℕ} {ks : List DataCard} → AllBear v end ks (blocks_in v) → length v ≡ 1000 → length old ≡ 1000
-    → ((x : ℕ) → cell_at old x ≡ Foreign) → Given v (store (cards_stored end ks old) 0 0)
+    → ((x : ℕ) → cell_at old x ≡ None) → Given v (store (cards_stored end ks old) 0 0)
 given_back v old {end = end} {ks = ks} cs long old_long none =
     record {
-      long = length-set cells 0 (Owned 0) ∙ cells_long;
-      zero_is = get_or-set_same cells 0 (Owned 0) Foreign (omega (arith, cells_long));
-      others = λ x l. get_or-set_other cells 0 x (Owned 0) Foreign (λ e. omega arith) ∙ by_mark x l (owned_at v x) refl;
+      long = length-set cells 0 (Some 0) ∙ cells_long;
+      zero_is = get_or-set_same cells 0 (Some 0) None (omega (arith, cells_long));
+      others = λ x l. get_or-set_other cells 0 x (Some 0) None (λ e. omega arith) ∙ by_mark x l (owned_at v x) refl;
     }
   where
     cells : List Cell

@@ -1,5 +1,6 @@
 -- The deck that is made, as cards: each of its data cards is read back as it was written, and then the first-order card, so the deck check
 -- finds it good and its data cards bear the words of the blocks. Card by card along the blocks. Assumes nothing.
+use Rattle.std.proofs.Common.{Err}
 use Prim.Native.Nat.{ℕ, zero, suc, ◌+◌, ◌*◌, ◌≤◌, ◌<◌}
 use mathlib.Core.Path.{◌≡◌, refl, sym, ap, subst, ◌∙◌}
 use mathlib.Core.List.{List, [], ◌∷◌, ◌++◌, append_assoc, append-nil}
@@ -15,11 +16,10 @@ use Rattle.rules.specs.Cards.{data_card, first_card, card_of, word_in}
 use Rattle.rules.specs.Decks.{card_at, card_size, cards_from, checked_from, deck_of, DataCard, data_in, data_from}
 use Rattle.rules.specs.Orders.{words_from}
 use Rattle.rules.specs.Making.{Block, blocks_in, cards_for, deck_made, numbers_fit}
-use Rattle.rules.specs.declared.Cell.{Cell}
+use Rattle.rules.specs.Answers.{Cell, good}
 use Rattle.rules.specs.declared.Card.TheVariants.{Data, First}
 use Rattle.rules.specs.declared.DeckFault.{DeckFault}
 use Rattle.rules.specs.declared.DeckFault.TheVariants.{NoFirst}
-use Rattle.rules.specs.declared.Deck.TheVariants.{Good, Faulty}
 use Rattle.rules.proofs.Tests.{both_first, both_second}
 use Rattle.rules.proofs.Fields.{length_first, behind}
 use Rattle.rules.proofs.CardTrips.{DataRead, data_is, data_written_read, data_written_words, first_is, first_written_read}
@@ -87,7 +87,7 @@ module _ (v : List Cell) (order problem : ℕ) (long : length v ≡ 1000) (are_w
 
   -- then the deck check, which has found no first-order card so far, finds it good, and the data cards from there on bear the blocks' words
   record Read (at : ℕ) (bs : List Block) : Type 0 where
-    good : (f : DeckFault) → checked_from (Faulty f) (cards_from deck at) ≡ Good (length deck) order problem
+    good : (f : DeckFault) → checked_from (Err f) (cards_from deck at) ≡ good (length deck) order problem
     bears : AllBear v (length deck) (data_from deck at) bs
 
   module _ (from : 1 ≤ order) (upto : order ≤ 999) where
@@ -101,8 +101,8 @@ module _ (v : List Cell) (order problem : ℕ) (long : length v ≡ 1000) (are_w
         let next = cards_next deck at 7 (ap card_size is) (omega arith) in
         record {
           good = λ f.
-              from_first deck at (Faulty f) refl is
-              ∙ rw (cards_end deck (at + 7) (omega arith)) (ap (λ (n : ℕ). Good n order problem) end);
+              from_first deck at (Err f) refl is
+              ∙ rw (cards_end deck (at + 7) (omega arith)) (ap (λ (n : ℕ). good n order problem) end);
           bears =
               subst (λ (ks : List DataCard). AllBear v (length deck) ks []) (sym (ap data_in next ∙ rw (is, data_in))) no_card;
         }
@@ -119,7 +119,7 @@ module _ (v : List Cell) (order problem : ℕ) (long : length v ≡ 1000) (are_w
         let r : Read (at + (11 + 11 * n)) bs =
         all_read c _ (number + 1) (omega arith) (omega arith) (card_behind s h number at low some rest stands) in
         record {
-          good = λ f. from_data deck at (Faulty f) refl is ∙ r.good f;
+          good = λ f. from_data deck at (Err f) refl is ∙ r.good f;
           bears =
               subst (λ (ks : List DataCard). AllBear v (length deck) ks (record { location = a; cells = n } ∷ bs)) (sym (data_next deck at is))
               (one_card
@@ -143,7 +143,7 @@ module _ (v : List Cell) (order problem : ℕ) (long : length v ≡ 1000) (fit :
       (omega arith) refl
 
   -- it is a good deck, whose first-order card is its last,
-  pub deck_good : deck_of (deck_made v order problem) ≡ Good (length (deck_made v order problem)) order problem
+  pub deck_good : deck_of (deck_made v order problem) ≡ good (length (deck_made v order problem)) order problem
   unfolding deck_of
   deck_good =
       let deck : List ℕ = deck_made v order problem in

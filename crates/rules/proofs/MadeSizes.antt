@@ -12,7 +12,7 @@ use Rattle.rules.specs.Cards.{data_card, first_card}
 use Rattle.rules.specs.Codes.{owned_at}
 use Rattle.rules.specs.Orders.{words_from}
 use Rattle.rules.specs.Making.{Block, blocks_in, cards_for, deck_made}
-use Rattle.rules.specs.declared.Cell.{Cell}
+use Rattle.rules.specs.Answers.{Cell}
 use Rattle.rules.proofs.Tests.{false_true}
 use Rattle.rules.proofs.Fields.{length_first}
 use Rattle.rules.proofs.Punching.{card_bytes}

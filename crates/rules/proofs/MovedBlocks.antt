@@ -1,5 +1,6 @@
 -- Block moves and address tests on a few cells, computed on the definitions, at the edges of what they are: what is judged, what is moved,
 -- where a test goes. A check in another order, an address too far, a word read after it was stored over break one of them. Assumes nothing.
+use Rattle.std.proofs.Common.{None, Some}
 use Prim.Native.Nat.{ℕ}
 use mathlib.Core.Path.{◌≡◌, refl}
 use mathlib.Core.List.{List, [], ◌∷◌}
@@ -11,8 +12,7 @@ use Rattle.rules.specs.Numbers.{outcome_number}
 use Rattle.rules.specs.Orders
 use Rattle.rules.specs.Running
 use Rattle.rules.specs.Running.{step}
-use Rattle.rules.specs.declared.Cell.{Cell}
-use Rattle.rules.specs.declared.Cell.TheVariants.{Foreign, Owned}
+use Rattle.rules.specs.Answers.{Cell}
 
 -- what one sees behind an order: the number (02: the run goes on), the next order's location, and the cells
 pub record Seen : Type 0 where
@@ -26,7 +26,7 @@ seen_in x = record { number = outcome_number x.outcome; location = x.machine.sta
 -- The order w stands in 001, behind it minus zero, a word that is no number, two words more, and a cell that is not owned. The box has a count
 -- for A, so that a minus order gets it.
 abbrev pub cells_with : ℕ → List Cell
-cells_with w = Owned 7000000050 ∷ Owned w ∷ Owned 10000000000 ∷ Owned 0000000005 ∷ Owned 6006005004 ∷ Owned 2000000050 ∷ Foreign ∷ []
+cells_with w = Some 7000000050 ∷ Some w ∷ Some 10000000000 ∷ Some 0000000005 ∷ Some 6006005004 ∷ Some 2000000050 ∷ None ∷ []
 
 abbrev pub machine_of : ℕ → Machine
 machine_of w =
@@ -49,18 +49,18 @@ Goes w l = does w ≡ record { number = 2; location = l; cells = cells_with w }
 
 -- the next order is in 002, and the cells behind the order are these
 abbrev pub Moves : ℕ → List Cell → Type 0
-Moves w v = does w ≡ record { number = 2; location = 2; cells = Owned 7000000050 ∷ Owned w ∷ v }
+Moves w v = does w ≡ record { number = 2; location = 2; cells = Some 7000000050 ∷ Some w ∷ v }
 
 pub record BlocksMoved : Type 0 where
   -- three words up by one, into the cell that is not owned by two, and down by one
-  pub up : Moves 9003002003 (Owned 10000000000 ∷ Owned 10000000000 ∷ Owned 0000000005 ∷ Owned 6006005004 ∷ Foreign ∷ [])
-  pub up_two : Moves 9003003004 (Owned 10000000000 ∷ Owned 0000000005 ∷ Owned 0000000005 ∷ Owned 6006005004 ∷ Owned 2000000050 ∷ [])
-  pub down : Moves 9003003002 (Owned 0000000005 ∷ Owned 6006005004 ∷ Owned 2000000050 ∷ Owned 2000000050 ∷ Foreign ∷ [])
+  pub up : Moves 9003002003 (Some 10000000000 ∷ Some 10000000000 ∷ Some 0000000005 ∷ Some 6006005004 ∷ None ∷ [])
+  pub up_two : Moves 9003003004 (Some 10000000000 ∷ Some 0000000005 ∷ Some 0000000005 ∷ Some 6006005004 ∷ Some 2000000050 ∷ [])
+  pub down : Moves 9003003002 (Some 0000000005 ∷ Some 6006005004 ∷ Some 2000000050 ∷ Some 2000000050 ∷ None ∷ [])
   -- one word, and a block onto itself
-  pub one : Moves 9001002006 (Owned 10000000000 ∷ Owned 0000000005 ∷ Owned 6006005004 ∷ Owned 2000000050 ∷ Owned 10000000000 ∷ [])
-  pub itself : Moves 9004002002 (Owned 10000000000 ∷ Owned 0000000005 ∷ Owned 6006005004 ∷ Owned 2000000050 ∷ Foreign ∷ [])
+  pub one : Moves 9001002006 (Some 10000000000 ∷ Some 0000000005 ∷ Some 6006005004 ∷ Some 2000000050 ∷ Some 10000000000 ∷ [])
+  pub itself : Moves 9004002002 (Some 10000000000 ∷ Some 0000000005 ∷ Some 6006005004 ∷ Some 2000000050 ∷ None ∷ [])
   -- a minus order of MOVE 000 is made a block move of two words by the box
-  pub by_the_box : Moves 19000002004 (Owned 10000000000 ∷ Owned 0000000005 ∷ Owned 10000000000 ∷ Owned 0000000005 ∷ Foreign ∷ [])
+  pub by_the_box : Moves 19000002004 (Some 10000000000 ∷ Some 0000000005 ∷ Some 10000000000 ∷ Some 0000000005 ∷ None ∷ [])
   -- from 000 and to 000, past 999 by either block: 20, though the first source cell may not be owned; the last cell may be 999
   pub from_000 : Refuses 9001000002 20
   pub to_000 : Refuses 9001002000 20

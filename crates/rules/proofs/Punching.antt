@@ -1,8 +1,10 @@
 -- PCH in the table of codes, where only its own code leads to it, and how long its cards are. Assumes nothing.
+use Rattle.std.proofs.Common.{Ok, Some}
 use Prim.Native.Nat.{ℕ, zero, suc, ◌+◌, ◌-◌, ◌*◌, ◌≤◌}
 use mathlib.Core.Path.{◌≡◌, refl, sym, ap, ◌∙◌}
 use mathlib.Core.List.{List, [], ◌∷◌}
 use mathlib.Core.Bool.{Bool, true, false}
+use Rattle.std.proofs.lemmas.Option.{none-some, some_pair_parts}
 use native.Mathlib.Omega.{arith}
 use lib.Dec.{eqb, leb, ltb}
 use lib.ListN.{length, length-append}
@@ -14,10 +16,8 @@ use Rattle.rules.specs.Codes.{Row, codes, lookup, pch_code, noop_code, code_in, 
 use Rattle.rules.specs.Machine.{Machine}
 use Rattle.rules.specs.Orders.{words_from, five, card_punched, cards_punched, punch_size}
 use Rattle.rules.specs.Running.{code_done}
-use Rattle.rules.specs.declared.Cell.{Cell}
+use Rattle.rules.specs.Answers.{Built, Cell}
 use Rattle.rules.specs.declared.Refusal.TheVariants.{BadAddress, Unmarked}
-use Rattle.rules.specs.declared.Checked.TheVariants.{Passes}
-use Rattle.rules.specs.declared.Built.TheVariants.{As, No}
 use Rattle.rules.specs.declared.Class.{Class}
 use Rattle.rules.specs.declared.Class.TheVariants.{Free, TwoNumbers, OneNumber, OneWord, Changed, Linked, BlockOut, BlockIn, BlockMoved, Compared}
 use Rattle.rules.specs.declared.Operation.{Operation}
@@ -63,28 +63,19 @@ pub all_suit_lem : all_suit codes ≡ true
 unfolding all_suit codes
 all_suit_lem = refl
 
-none_built : {A : Type 0} (o : Operation) (k : Class) → No ≡ As o k → A
-none_built o k e = let z : ◌≡◌ {A = ℕ} 0 1 = cc in let y : ⊥ = omega arith in absurd y
-
-same_operation : {o o' : Operation} {k k' : Class} → As o k ≡ As o' k' → o ≡ o'
-same_operation e = cc
-
-same_class : {o o' : Operation} {k k' : Class} → As o k ≡ As o' k' → k ≡ k'
-same_class e = cc
-
-pub lookup_suits : (code : ℕ) (rs : List Row) → all_suit rs ≡ true → (o : Operation) (k : Class) → lookup code rs ≡ As o k → is_pch o ≡ true
+pub lookup_suits : (code : ℕ) (rs : List Row) → all_suit rs ≡ true → (o : Operation) (k : Class) → lookup code rs ≡ Some (o, k) → is_pch o ≡ true
     → (is_out k ≡ true) × (code ≡ pch_code)
 unfolding lookup all_suit
-lookup_suits code [] h o k e t = none_built o k e
+lookup_suits code [] h o k e t = absurd (none-some (o, k) e)
 lookup_suits code (r ∷ rs) h o k e t = by_code (eqb code r.code) refl (lookup_suits code rs (both_second (row_suits r) (all_suit rs) h) o k)
   where
-    by_code : (b : Bool) → eqb code r.code ≡ b → (lookup code rs ≡ As o k → is_pch o ≡ true → (is_out k ≡ true) × (code ≡ pch_code))
+    by_code : (b : Bool) → eqb code r.code ≡ b → (lookup code rs ≡ Some (o, k) → is_pch o ≡ true → (is_out k ≡ true) × (code ≡ pch_code))
         → (is_out k ≡ true) × (code ≡ pch_code)
     by_code true f g =
-        let q : As r.operation r.class ≡ As o k = rw f at e in
+        let q : ◌≡◌ {A = Built} (Some (r.operation, r.class)) (Some (o, k)) = rw f at e in
         let s : both (is_out r.class) (eqb r.code pch_code) ≡ true =
-        rw (ap is_pch (same_operation q) ∙ t) at (both_first (row_suits r) (all_suit rs) h) in (
-          ap is_out (sym (same_class q)) ∙ both_first (is_out r.class) (eqb r.code pch_code) s,
+        rw (ap is_pch (some_pair_parts r.operation o r.class k q).0 ∙ t) at (both_first (row_suits r) (all_suit rs) h) in (
+          ap is_out (sym (some_pair_parts r.operation o r.class k q).1) ∙ both_first (is_out r.class) (eqb r.code pch_code) s,
           eqb-true code r.code f ∙ eqb-true r.code pch_code (both_second (is_out r.class) (eqb r.code pch_code) s),
         )
     by_code false f g = g (rw f at e) t
@@ -99,7 +90,7 @@ not_traced true w e = by_code (eqb (code_in w) pch_code) refl e
     by_code false f g = absurd (eqb-false (code_in w) pch_code f g)
 
 -- what passes its checks has a block that begins behind 000
-pub passes_block : (k : Class) (v : List Cell) (a b c : ℕ) → is_out k ≡ true → checked k v a b c ≡ Passes → 1 ≤ b
+pub passes_block : (k : Class) (v : List Cell) (a b c : ℕ) → is_out k ≡ true → checked k v a b c ≡ (Ok tt) → 1 ≤ b
 unfolding checked
 passes_block Free v a b c t e = false_true t
 passes_block TwoNumbers v a b c t e = false_true t
@@ -109,7 +100,7 @@ passes_block Changed v a b c t e = false_true t
 passes_block Linked v a b c t e = false_true t
 passes_block BlockOut v a b c t e = by_block (block_fits b c) refl e
   where
-    by_block : (u : Bool) → block_fits b c ≡ u → and_then (unless u BadAddress) (and_then (unless (owned_from v b (c + 1 - b)) Unmarked) Passes) ≡ Passes → 1 ≤ b
+    by_block : (u : Bool) → block_fits b c ≡ u → and_then (unless u BadAddress) (and_then (unless (owned_from v b (c + 1 - b)) Unmarked) (Ok tt)) ≡ (Ok tt) → 1 ≤ b
     by_block true f g = leb-true 1 b (both_first (leb 1 b) (leb b c) f)
     by_block false f g = let z : ◌≡◌ {A = ℕ} 0 1 = cc in let y : ⊥ = omega arith in absurd y
 passes_block BlockIn v a b c t e = false_true t

@@ -1,5 +1,6 @@
 -- A reader that stands at a card's start, or at the deck's end, stands at one again behind the cards that it has read. By the data cards
 -- behind the first-order card. Assumes nothing.
+use Rattle.std.proofs.Common.{Err, Ok}
 use Prim.Native.Nat.{ℕ, ◌+◌}
 use mathlib.Core.Path.{◌≡◌, refl, sym, ap, subst}
 use mathlib.Core.List.{List, []}
@@ -9,12 +10,12 @@ use lib.Dec.{eqb, ltb}
 use lib.ListN.{length, drop}
 use borrow.Author.Tests.{eqb-true, eq-eqb}
 use Rattle.rules.specs.Words.{pick, either}
+use Rattle.rules.specs.Answers.{Judged}
 use Rattle.rules.specs.Decks.{card_at, DataCard, data_from, data_in, fits_block, judged, judged_from, begins_at, may_stand}
 use Rattle.rules.specs.declared.Card.TheVariants.{Data}
-use Rattle.rules.specs.declared.Refusal.{Refusal}
 use Rattle.rules.specs.declared.Refusal.TheVariants.{NoCard}
-use Rattle.rules.specs.declared.Judged.TheVariants.{Fits, Fails}
 use Rattle.rules.proofs.Tests.{false_true}
+use Rattle.rules.proofs.Sides.{same_ok, err_no_ok}
 use Rattle.rules.proofs.Decks.{cards_end, data_next}
 use Rattle.rules.proofs.Tails.{Tail, at_end, one_more}
 
@@ -75,25 +76,19 @@ tail_from deck at r (one_more a {size = size} q t) e =
 
 -- ---- READ
 
-same_place : {a b : ℕ} → Fits a ≡ Fits b → a ≡ b
-same_place e = cc
-
-fails_fits : {A : Type 0} {r : Refusal} {end : ℕ} → Fails r ≡ Fits end → A
-fails_fits e = let z : ◌≡◌ {A = ℕ} 0 1 = cc in let y : ⊥ = omega arith in absurd y
-
 -- a reader that was not moved
-unmoved : (deck : List ℕ) (at end : ℕ) → Tail deck at → Fits at ≡ Fits end → may_stand deck at end ≡ true
-unmoved deck at end t e = subst (λ (x : ℕ). may_stand deck at x ≡ true) (same_place e) (stands_here deck at t)
+unmoved : (deck : List ℕ) (at end : ℕ) → Tail deck at → ◌≡◌ {A = Judged} (Ok at) (Ok end) → may_stand deck at end ≡ true
+unmoved deck at end t e = subst (λ (x : ℕ). may_stand deck at x ≡ true) (same_ok e) (stands_here deck at t)
 
 -- the place behind the cards read
-read_stands : (deck : List ℕ) (at b c end : ℕ) → Tail deck at → judged_from deck at b c ≡ Fits end → may_stand deck at end ≡ true
+read_stands : (deck : List ℕ) (at b c end : ℕ) → Tail deck at → judged_from deck at b c ≡ Ok end → may_stand deck at end ≡ true
 unfolding judged data_in
 read_stands deck at b c end (at_end a l) e =
     by_filled (ltb c b) (rw (ap data_in (cards_end deck at (omega arith))) at e)
   where
-    by_filled : (t : Bool) → pick t (Fits at) (Fails NoCard) ≡ Fits end → may_stand deck at end ≡ true
+    by_filled : (t : Bool) → pick t (Ok at) (Err NoCard) ≡ Ok end → may_stand deck at end ≡ true
     by_filled true f = unmoved deck at end (at_end at l) f
-    by_filled false f = fails_fits f
+    by_filled false f = err_no_ok f
 read_stands deck at b c end (one_more a {location = location} {words = words} {size = size} q t) e =
     by_filled (ltb c b) refl (fits_block (card location words size) b c) refl (read_stands deck (at + size) (b + words) c end t)
   where
@@ -101,13 +96,13 @@ read_stands deck at b c end (one_more a {location = location} {words = words} {s
     card location words size = record { place = at; location = location; words = words; size = size; rest = drop at deck }
 
     by_filled : (u : Bool) → ltb c b ≡ u → (v : Bool) → fits_block (card location words size) b c ≡ v
-        → (judged_from deck (at + size) (b + words) c ≡ Fits end → may_stand deck (at + size) end ≡ true) → may_stand deck at end ≡ true
+        → (judged_from deck (at + size) (b + words) c ≡ Ok end → may_stand deck (at + size) end ≡ true) → may_stand deck at end ≡ true
     by_filled true f v g k = unmoved deck at end (one_more at q t) (rw (data_next deck at q, f, judged) at e)
     by_filled false f true g k = stands_behind deck at end q (k (rw (data_next deck at q, f, g, judged) at e))
-    by_filled false f false g k = fails_fits (rw (data_next deck at q, f, g, judged) at e)
+    by_filled false f false g k = err_no_ok (rw (data_next deck at q, f, g, judged) at e)
 
 -- A reader that may stand where it does may stand where READ leaves it.
-pub read_leaves : (deck : List ℕ) (behind r b c end : ℕ) → Tail deck behind → may_stand deck behind r ≡ true → judged_from deck r b c ≡ Fits end
+pub read_leaves : (deck : List ℕ) (behind r b c end : ℕ) → Tail deck behind → may_stand deck behind r ≡ true → judged_from deck r b c ≡ Ok end
     → may_stand deck behind end ≡ true
 read_leaves deck behind r b c end t s e =
     let f = tail_from deck behind r t s in

@@ -1,5 +1,6 @@
 -- Of all refusals, which are for want of room: none that arithmetic, the checks of an operand class or READ's judging of cards answers.
 -- Assumes nothing.
+use Rattle.std.proofs.Common.{Err, Ok}
 use Prim.Native.Nat.{ℕ, ◌+◌, ◌-◌}
 use mathlib.Core.List.{List, [], ◌∷◌}
 use mathlib.Core.Bool.{Bool, true, false}
@@ -11,21 +12,14 @@ use Rattle.rules.specs.Drum.{word_at}
 use Rattle.rules.specs.Decks.{DataCard, judged, fits_block}
 use Rattle.rules.specs.Codes.{checked, and_then, unless, address_check, mark_check, number_check, block_fits, block_lies, owned_at, owned_from}
 use Rattle.rules.specs.Orders.{reckoned_by}
-use Rattle.rules.specs.declared.Cell.{Cell}
-use Rattle.rules.specs.declared.Reckoned.{Reckoned}
-use Rattle.rules.specs.declared.Reckoned.TheVariants.{Result, Refused}
+use Rattle.rules.specs.Answers.{Cell, Checked, Judged, Outcome, Reckoned}
 use Rattle.rules.specs.declared.Reckoning.{Reckoning}
 use Rattle.rules.specs.declared.Reckoning.TheVariants.{Add, Sub, Mpy, Div, Ngmpy, Sqrt, Abs}
-use Rattle.rules.specs.declared.Judged.{Judged}
-use Rattle.rules.specs.declared.Judged.TheVariants.{Fits, Fails}
 use Rattle.rules.specs.declared.Refusal.{Refusal}
 use Rattle.rules.specs.declared.Refusal.TheVariants.{BadAddress, Unmarked, NoRoom, NotBuilt, NotNumber, ZeroDivisor, NegativeRoot, OutOfRange, Unfit, NoCard}
-use Rattle.rules.specs.declared.Checked.{Checked}
-use Rattle.rules.specs.declared.Checked.TheVariants.{Passes, Refuses}
 use Rattle.rules.specs.declared.Class.{Class}
 use Rattle.rules.specs.declared.Class.TheVariants.{Free, TwoNumbers, OneNumber, OneWord, Changed, Linked, BlockOut, BlockIn, BlockMoved, Compared}
-use Rattle.rules.specs.declared.Outcome.{Outcome}
-use Rattle.rules.specs.declared.Outcome.TheVariants.{GoesOn, Stops, Undone}
+use Rattle.rules.specs.declared.Done.TheVariants.{GoesOn, Stops}
 
 -- ---- refusals that are not for want of room
 
@@ -42,21 +36,21 @@ Other Unfit = Unit {0}
 Other NoCard = Unit {0}
 
 abbrev pub OfReckoned : Reckoned → Type 0
-OfReckoned (Result w) = Unit {0}
-OfReckoned (Refused r) = Other r
+OfReckoned (Ok w) = Unit {0}
+OfReckoned (Err r) = Other r
 
 abbrev pub OfChecked : Checked → Type 0
-OfChecked Passes = Unit {0}
-OfChecked (Refuses r) = Other r
+OfChecked (Ok _) = Unit {0}
+OfChecked (Err r) = Other r
 
 abbrev pub OfJudged : Judged → Type 0
-OfJudged (Fits end) = Unit {0}
-OfJudged (Fails r) = Other r
+OfJudged (Ok end) = Unit {0}
+OfJudged (Err r) = Other r
 
 abbrev pub OfOutcome : Outcome → Type 0
-OfOutcome GoesOn = Unit {0}
-OfOutcome (Stops k w) = Unit {0}
-OfOutcome (Undone r) = Other r
+OfOutcome (Ok GoesOn) = Unit {0}
+OfOutcome (Ok (Stops k w)) = Unit {0}
+OfOutcome (Err r) = Other r
 
 -- arithmetic
 word_other : (s : Settled) → OfReckoned (word_of s)
@@ -69,7 +63,7 @@ pick_other true x y p q = p
 pick_other false x y p q = q
 
 of_two : (x y : ℕ) (s : Settled) → OfReckoned (of_numbers x y (word_of s))
-of_two x y s = pick_other (both (is_number x) (is_number y)) (word_of s) (Refused NotNumber) (word_other s) tt
+of_two x y s = pick_other (both (is_number x) (is_number y)) (word_of s) (Err NotNumber) (word_other s) tt
 
 pub reckoned_other : (k : Reckoning) (x y : ℕ) → OfReckoned (reckoned_by k x y)
 unfolding add_of sub_of mpy_of div_of ngmpy_of sqrt_of abs_of
@@ -78,14 +72,14 @@ reckoned_other Sub x y = of_two x y (difference_of single (value_in x) (value_in
 reckoned_other Mpy x y = of_two x y (product_of single (signs (value_in x) (value_in y)) (value_in x) (value_in y))
 reckoned_other Div x y =
     let s : Settled = quotient_of single (signs (value_in x) (value_in y)) (value_in x) (value_in y) in
-    pick_other (both (is_number x) (is_number y)) (pick (eqb y 0) (Refused ZeroDivisor) (word_of s)) (Refused NotNumber)
-    (pick_other (eqb y 0) (Refused ZeroDivisor) (word_of s) tt (word_other s)) tt
+    pick_other (both (is_number x) (is_number y)) (pick (eqb y 0) (Err ZeroDivisor) (word_of s)) (Err NotNumber)
+    (pick_other (eqb y 0) (Err ZeroDivisor) (word_of s) tt (word_other s)) tt
 reckoned_other Ngmpy x y = of_two x y (product_of single (turned (signs (value_in x) (value_in y))) (value_in x) (value_in y))
 reckoned_other Sqrt x y =
     let s : Settled = root_of single (value_in y) in
-    pick_other (is_number y) (pick (eqb (sign_in y) 1) (Refused NegativeRoot) (word_of s)) (Refused NotNumber)
-    (pick_other (eqb (sign_in y) 1) (Refused NegativeRoot) (word_of s) tt (word_other s)) tt
-reckoned_other Abs x y = pick_other (is_number y) (Result (digits_in y)) (Refused NotNumber) tt tt
+    pick_other (is_number y) (pick (eqb (sign_in y) 1) (Err NegativeRoot) (word_of s)) (Err NotNumber)
+    (pick_other (eqb (sign_in y) 1) (Err NegativeRoot) (word_of s) tt (word_other s)) tt
+reckoned_other Abs x y = pick_other (is_number y) (Ok (digits_in y)) (Err NotNumber) tt tt
 
 -- the checks that go by the class
 unless_other : (t : Bool) (r : Refusal) → Other r → OfChecked (unless t r)
@@ -93,8 +87,8 @@ unless_other true r o = tt
 unless_other false r o = o
 
 then_other : (x y : Checked) → OfChecked x → OfChecked y → OfChecked (and_then x y)
-then_other Passes y p q = q
-then_other (Refuses r) y p q = p
+then_other (Ok _) y p q = q
+then_other (Err r) y p q = p
 
 address_other : (k : Class) (a b c : ℕ) → OfChecked (address_check k a b c)
 address_other Free a b c = tt
@@ -148,13 +142,13 @@ pub judged_other : (ks : List DataCard) (at b c : ℕ) → OfJudged (judged ks a
 unfolding judged
 judged_other [] at b c = go (ltb c b)
   where
-    go : (t : Bool) → OfJudged (pick t (Fits at) (Fails NoCard))
+    go : (t : Bool) → OfJudged (pick t (Ok at) (Err NoCard))
     go true = tt
     go false = tt
 judged_other (k ∷ ks) at b c = go (ltb c b) (fits_block k b c) (judged_other ks (k.place + k.size) (b + k.words) c)
   where
     go : (t u : Bool) → OfJudged (judged ks (k.place + k.size) (b + k.words) c)
-        → OfJudged (elim t [ true ↦ Fits at | false ↦ elim u [ true ↦ judged ks (k.place + k.size) (b + k.words) c | false ↦ Fails Unfit ] ])
+        → OfJudged (elim t [ true ↦ Ok at | false ↦ elim u [ true ↦ judged ks (k.place + k.size) (b + k.words) c | false ↦ Err Unfit ] ])
     go true u h = tt
     go false true h = h
     go false false h = tt

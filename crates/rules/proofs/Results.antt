@@ -1,5 +1,6 @@
 -- What arithmetic answers is a word: its digits are fewer than 10^8 where its exponent is in range, since rounding looks for the place at
 -- which they are. Assumes nothing.
+use Rattle.std.proofs.Common.{Err, Ok}
 use Prim.Native.Nat.{ℕ, zero, suc, ◌+◌, ◌-◌, ◌*◌, ◌/◌, ◌^◌, ◌≤◌, ◌<◌}
 use mathlib.Core.Path.{◌≡◌, refl, subst}
 use mathlib.Core.Bool.{Bool, true, false}
@@ -10,8 +11,7 @@ use Rattle.rules.specs.Words.{pick, both, either, is_word, sign_in, leading_in, 
 use Rattle.rules.specs.Rounding.{single, nought, value, outside, nearest, place, place_in, placed, settled, turned, signs, sum, sum_of, difference_of, product_of, quotient_of, root_of}
 use Rattle.rules.specs.Arithmetic.{value_in, word_of, of_numbers, of_number, add_of, sub_of, mpy_of, div_of, ngmpy_of, sqrt_of, abs_of}
 use Rattle.rules.specs.Orders.{reckoned_by}
-use Rattle.rules.specs.declared.Reckoned.{Reckoned}
-use Rattle.rules.specs.declared.Reckoned.TheVariants.{Result, Refused}
+use Rattle.rules.specs.Answers.{Reckoned}
 use Rattle.rules.specs.declared.Refusal.TheVariants.{NotNumber, ZeroDivisor, NegativeRoot}
 use Rattle.rules.specs.declared.Reckoning.{Reckoning}
 use Rattle.rules.specs.declared.Reckoning.TheVariants.{Add, Sub, Mpy, Div, Ngmpy, Sqrt, Abs}
@@ -43,8 +43,8 @@ few d h (suc e) = by_test (ltb (nearest h e) (10 ^ d)) refl (few d h e)
 
 -- a result, where there is one, is a word
 abbrev pub Fits : Reckoned → Type 0
-Fits (Result w) = w ≤ 19999999999
-Fits (Refused r) = Unit {0}
+Fits (Ok w) = w ≤ 19999999999
+Fits (Err r) = Unit {0}
 
 pick_fits : (t : Bool) (x y : Reckoned) → Fits x → Fits y → Fits (pick t x y)
 pick_fits true x y p q = p
@@ -97,7 +97,7 @@ sign_small w e = let l : w ≤ 19999999999 = number_word w e in omega arith
 numbers_fit : (a b : ℕ) (r : Reckoned) → (is_number a ≡ true → is_number b ≡ true → Fits r) → Fits (of_numbers a b r)
 numbers_fit a b r f = by_test (is_number a) refl (is_number b) refl
   where
-    by_test : (t : Bool) → is_number a ≡ t → (u : Bool) → is_number b ≡ u → Fits (pick (both t u) r (Refused NotNumber))
+    by_test : (t : Bool) → is_number a ≡ t → (u : Bool) → is_number b ≡ u → Fits (pick (both t u) r (Err NotNumber))
     by_test true p true q = f p q
     by_test true p false q = tt
     by_test false p u q = tt
@@ -105,7 +105,7 @@ numbers_fit a b r f = by_test (is_number a) refl (is_number b) refl
 number_fits : (b : ℕ) (r : Reckoned) → (is_number b ≡ true → Fits r) → Fits (of_number b r)
 number_fits b r f = by_test (is_number b) refl
   where
-    by_test : (u : Bool) → is_number b ≡ u → Fits (pick u r (Refused NotNumber))
+    by_test : (u : Bool) → is_number b ≡ u → Fits (pick u r (Err NotNumber))
     by_test true q = f q
     by_test false q = tt
 
@@ -115,8 +115,8 @@ reckoned_fits Add x y = numbers_fit x y _ (λ p q. sum_fits (sign_in x) _ (sign_
 reckoned_fits Sub x y = numbers_fit x y _ (λ p q. sum_fits (sign_in x) _ (turned (sign_in y)) _ (sign_small x p) (omega arith))
 reckoned_fits Mpy x y = numbers_fit x y _ (λ p q. settled_fits (signs (value_in x) (value_in y)) _ (omega arith))
 reckoned_fits Div x y =
-    numbers_fit x y _ (λ p q. pick_fits (eqb y 0) (Refused ZeroDivisor) _ tt (settled_fits (signs (value_in x) (value_in y)) _ (omega arith)))
+    numbers_fit x y _ (λ p q. pick_fits (eqb y 0) (Err ZeroDivisor) _ tt (settled_fits (signs (value_in x) (value_in y)) _ (omega arith)))
 reckoned_fits Ngmpy x y = numbers_fit x y _ (λ p q. settled_fits (turned (signs (value_in x) (value_in y))) _ (omega arith))
 reckoned_fits Sqrt x y =
-    number_fits y _ (λ q. pick_fits (eqb (sign_in y) 1) (Refused NegativeRoot) _ tt (settled_fits 0 _ (omega arith)))
+    number_fits y _ (λ q. pick_fits (eqb (sign_in y) 1) (Err NegativeRoot) _ tt (settled_fits 0 _ (omega arith)))
 reckoned_fits Abs x y = number_fits y _ (λ q. omega arith)

@@ -1,5 +1,6 @@
 -- Runs in rooms: where neither ends with 22, runs in two rooms are the same; a run that ends with 22 is the beginning of the run in a
 -- larger room; and where the room holds the most that so many orders can write, no run ends with 22. Assumes nothing.
+use Rattle.std.proofs.Common.{Err, Ok}
 use Prim.Native.Nat.{ℕ, zero, suc, ◌+◌, ◌*◌, ◌≤◌, ◌<◌}
 use mathlib.Core.Path.{◌≡◌, refl, sym, ap, ◌∙◌}
 use mathlib.Core.List.{List}
@@ -9,10 +10,11 @@ use lib.ListN.{length}
 use Rattle.rules.specs.Numbers.{completed, may_go_on}
 use Rattle.rules.specs.Machine.{Machine, Inputs, Answer}
 use Rattle.rules.specs.Running.{Course, step, run_from}
+use Rattle.rules.specs.Answers.{Outcome}
 use Rattle.rules.specs.declared.Refusal.TheVariants.{NoRoom}
-use Rattle.rules.specs.declared.Outcome.{Outcome}
-use Rattle.rules.specs.declared.Outcome.TheVariants.{GoesOn, Stops, Undone}
+use Rattle.rules.specs.declared.Done.TheVariants.{GoesOn, Stops}
 use Rattle.rules.proofs.Tests.{false_true}
+use Rattle.rules.proofs.Sides.{ok_no_err}
 use Rattle.rules.proofs.Tails.{Tail}
 use Rattle.rules.proofs.SoundChanges.{Sound}
 use Rattle.rules.proofs.SoundOrders.{step_sound}
@@ -21,7 +23,7 @@ use Rattle.rules.proofs.Full.{most_sent, step_stepped, traced_only}
 
 -- a run that did not end with 22
 abbrev pub NotFull : Outcome → Type 0
-NotFull o = o ≡ Undone NoRoom → ⊥
+NotFull o = o ≡ Err NoRoom → ⊥
 
 -- the same course with p sent and n orders completed before
 abbrev pub course_behind : List ℕ → ℕ → Course → Course
@@ -31,11 +33,8 @@ course_behind p n x = record { outcome = x.outcome; machine = sent_before p x.ma
 abbrev ended_at : Answer → ℕ → Course
 ended_at x n = record { outcome = x.outcome; machine = x.machine; count = n + completed x.outcome }
 
-full_ends : (o : Outcome) → o ≡ Undone NoRoom → may_go_on o ≡ false
+full_ends : (o : Outcome) → o ≡ Err NoRoom → may_go_on o ≡ false
 full_ends o e = ap may_go_on e
-
-goes_not_full : {A : Type 0} → GoesOn ≡ Undone NoRoom → A
-goes_not_full e = let z : ◌≡◌ {A = ℕ} 0 1 = cc in let y : ⊥ = omega arith in absurd y
 
 -- ---- one order of a run
 
@@ -48,15 +47,15 @@ module _ (i : Inputs) (k : ℕ) (m : Machine) (n : ℕ) where
   unfolding run_from
   run_ends e = rw (e, run_from)
 
-  run_full : (step i m).outcome ≡ Undone NoRoom → (run_from i (suc k) m n).outcome ≡ Undone NoRoom
+  run_full : (step i m).outcome ≡ Err NoRoom → (run_from i (suc k) m n).outcome ≡ Err NoRoom
   run_full e = ap (λ (x : Course). x.outcome) (run_ends (full_ends (step i m).outcome e)) ∙ e
 
 -- ---- counts
 
 one_at_most : (o : Outcome) → completed o ≤ 1
-one_at_most (Stops k w) = omega arith
-one_at_most GoesOn = omega arith
-one_at_most (Undone r) = omega arith
+one_at_most (Ok (Stops k w)) = omega arith
+one_at_most (Ok GoesOn) = omega arith
+one_at_most (Err r) = omega arith
 
 pub count_within : (i : Inputs) (k : ℕ) (m : Machine) (n : ℕ) → (n ≤ (run_from i k m n).count) × ((run_from i k m n).count ≤ n + k)
 unfolding run_from
@@ -107,17 +106,17 @@ module _ (p : List ℕ) (r : ℕ) (i : Inputs) (a : ℕ) where
 -- ---- the first room becomes full, the other does not: what is left to do in the other is done from where the first was left
 
 module _ (p : List ℕ) (r : ℕ) (i : Inputs) (a behind : ℕ) (tail : Tail i.deck behind) where
-  pub run_left : (k : ℕ) (m : Machine) (n l : ℕ) → Sound i.deck behind m → (run_from i k m n).outcome ≡ Undone NoRoom
+  pub run_left : (k : ℕ) (m : Machine) (n l : ℕ) → Sound i.deck behind m → (run_from i k m n).outcome ≡ Err NoRoom
       → NotFull (run_from (in_room r i) k (sent_before p m) (a + n)).outcome → (run_from i k m n).count + l ≡ n + k
       → run_from (in_room r i) k (sent_before p m) (a + n)
       ≡ run_from (in_room r i) l (sent_before p (run_from i k m n).machine) (a + (run_from i k m n).count)
   unfolding run_from
-  run_left zero m n l s f g b = goes_not_full f
+  run_left zero m n l s f g b = ok_no_err f
   run_left (suc k) m n l s f g b =
       by_step (may_go_on (step i m).outcome) refl (step_alike p r i m) (run_left k (step i m).machine (n + 1) l (step_sound i behind tail m s))
     where
       by_step : (t : Bool) → may_go_on (step i m).outcome ≡ t → Alike p (step i m) (step (in_room r i) (sent_before p m))
-          → ((run_from i k (step i m).machine (n + 1)).outcome ≡ Undone NoRoom
+          → ((run_from i k (step i m).machine (n + 1)).outcome ≡ Err NoRoom
           → NotFull (run_from (in_room r i) k (sent_before p (step i m).machine) (a + (n + 1))).outcome
           → (run_from i k (step i m).machine (n + 1)).count + l ≡ n + 1 + k
           → run_from (in_room r i) k (sent_before p (step i m).machine) (a + (n + 1))
@@ -139,7 +138,7 @@ module _ (p : List ℕ) (r : ℕ) (i : Inputs) (a behind : ℕ) (tail : Tail i.d
           ∙ ap (λ (x : Course). run_from (in_room r i) l (sent_before p x.machine) (a + x.count)) (sym o)
       by_step false u w h =
           let o = run_ends i k m n u in
-          let e : (step i m).outcome ≡ Undone NoRoom = sym (ap (λ (x : Course). x.outcome) o) ∙ f in
+          let e : (step i m).outcome ≡ Err NoRoom = sym (ap (λ (x : Course). x.outcome) o) ∙ f in
           let same : (step i m).machine ≡ m = ((step_stepped i m (traced_only m s.state)).full e).0 in
           let c : (run_from i (suc k) m n).count ≡ n = ap (λ (x : Course). x.count) o ∙ ap (λ (x : Outcome). n + completed x) e ∙ omega arith in
           let d : suc k ≡ l = omega (arith, c, b) in
@@ -153,7 +152,7 @@ module _ (i : Inputs) (behind : ℕ) (tail : Tail i.deck behind) where
   -- for the most that all orders of the budget can write
   pub run_fits : (k : ℕ) (m : Machine) (n : ℕ) → Sound i.deck behind m → length m.sent + most_sent * k ≤ i.room → NotFull (run_from i k m n).outcome
   unfolding run_from
-  run_fits zero m n s l = goes_not_full
+  run_fits zero m n s l = ok_no_err
   run_fits (suc k) m n s l =
       let x = step_stepped i m (traced_only m s.state) in
       by_step (may_go_on (step i m).outcome) refl
@@ -169,9 +168,9 @@ module _ (i : Inputs) (behind : ℕ) (tail : Tail i.deck behind) where
 
   -- for the most that one order can write: some order is done before the room is full
   pub full_took : (k : ℕ) (m : Machine) (n : ℕ) → Sound i.deck behind m → length m.sent + most_sent ≤ i.room
-      → (run_from i k m n).outcome ≡ Undone NoRoom → n < (run_from i k m n).count
+      → (run_from i k m n).outcome ≡ Err NoRoom → n < (run_from i k m n).count
   unfolding run_from
-  full_took zero m n s l e = goes_not_full e
+  full_took zero m n s l e = ok_no_err e
   full_took (suc k) m n s l e = by_step (may_go_on (step i m).outcome) refl
     where
       by_step : (t : Bool) → may_go_on (step i m).outcome ≡ t → n < (run_from i (suc k) m n).count

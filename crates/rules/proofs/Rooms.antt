@@ -1,5 +1,6 @@
 -- What was sent before makes no difference to an order, and the room none but for refusals with 22: an order that is not refused for want
 -- of room, in neither of two rooms, does the same in both. By a walk over all orders. Assumes nothing.
+use Rattle.std.proofs.Common.{Err, None, Ok, Some}
 use Prim.Native.Nat.{ℕ, zero, suc, ◌+◌, ◌-◌}
 use mathlib.Core.Path.{◌≡◌, refl, ap, ◌∙◌}
 use mathlib.Core.List.{List, ◌++◌, append_assoc}
@@ -13,18 +14,8 @@ use Rattle.rules.specs.Codes.{codes, lookup, checked}
 use Rattle.rules.specs.Machine.{Machine, Inputs, Answer, counting, clear_box, is_traced, is_tracing, with_state, going_to, onward, done, undone}
 use Rattle.rules.specs.Orders.{reckoned_by, stops_by_loss, reckoned, cond_stopped, gone, largest, raised, changed_word, changed, five, card_punched, cards_punched, punch_size, punched, read, retraced, performed}
 use Rattle.rules.specs.Running.{allowed, obeyed_as, code_done, obeyed, as_done, order_fits, trace_sent, trace_size, traced, fetched, step}
-use Rattle.rules.specs.declared.Cell.{Cell}
-use Rattle.rules.specs.declared.Cell.TheVariants.{Foreign, Owned}
-use Rattle.rules.specs.declared.Reckoned.{Reckoned}
-use Rattle.rules.specs.declared.Reckoned.TheVariants.{Result, Refused}
-use Rattle.rules.specs.declared.Judged.{Judged}
-use Rattle.rules.specs.declared.Judged.TheVariants.{Fits, Fails}
+use Rattle.rules.specs.Answers.{Built, Cell, Checked, Judged, Reckoned}
 use Rattle.rules.specs.declared.Refusal.TheVariants.{BadAddress, NoRoom}
-use Rattle.rules.specs.declared.Checked.{Checked}
-use Rattle.rules.specs.declared.Checked.TheVariants.{Passes, Refuses}
-use Rattle.rules.specs.declared.Built.{Built}
-use Rattle.rules.specs.declared.Built.TheVariants.{As, No}
-use Rattle.rules.specs.declared.Outcome.TheVariants.{Undone}
 use Rattle.rules.specs.declared.Operation.{Operation}
 use Rattle.rules.specs.declared.Operation.TheVariants.{Reckon, Move, Go, Loop, Change, Read, Pch, Trace, MoveBlock, Compare}
 use Rattle.rules.specs.declared.Going.{Going}
@@ -44,8 +35,8 @@ answered_behind p x = record { outcome = x.outcome; machine = sent_before p x.ma
 
 -- x is the answer without p, y the one behind it
 pub data Alike (p : List ℕ) (x y : Answer) : Type 0 where
-  first_full : x.outcome ≡ Undone NoRoom → Alike p x y
-  second_full : y.outcome ≡ Undone NoRoom → Alike p x y
+  first_full : x.outcome ≡ Err NoRoom → Alike p x y
+  second_full : y.outcome ≡ Err NoRoom → Alike p x y
   alike : y ≡ answered_behind p x → Alike p x y
 
 -- cards
@@ -87,12 +78,12 @@ module _ (p : List ℕ) (r : ℕ) (i : Inputs) where
   room_alike false t' m x x' a = first_full refl
 
   reckoned_alike : (t : Bool) (m : Machine) (c : ℕ) (x : Reckoned) → Alike p (reckoned t m c x) (reckoned t (sent_before p m) c x)
-  reckoned_alike t m c (Result w) = alike refl
-  reckoned_alike t m c (Refused f) = alike refl
+  reckoned_alike t m c (Ok w) = alike refl
+  reckoned_alike t m c (Err f) = alike refl
 
   changed_alike : (m : Machine) (b : ℕ) (x : Reckoned) → Alike p (changed m b x) (changed (sent_before p m) b x)
-  changed_alike m b (Result w) = alike refl
-  changed_alike m b (Refused f) = alike refl
+  changed_alike m b (Ok w) = alike refl
+  changed_alike m b (Err f) = alike refl
 
   cond_alike : (t : Bool) (m : Machine) (b c : ℕ) → Alike p (cond_stopped t m b c) (cond_stopped t (sent_before p m) b c)
   cond_alike true m b c = alike refl
@@ -109,8 +100,8 @@ module _ (p : List ℕ) (r : ℕ) (i : Inputs) where
   gone_alike m Noop b c = alike refl
 
   read_alike : (m : Machine) (j : Judged) → Alike p (read i m j) (read other (sent_before p m) j)
-  read_alike m (Fits end) = alike refl
-  read_alike m (Fails f) = alike refl
+  read_alike m (Ok end) = alike refl
+  read_alike m (Err f) = alike refl
 
   round_alike : (m : Machine) (x y z : Bool) (c : ℕ) (t : Bool)
       → Alike p
@@ -143,12 +134,12 @@ module _ (p : List ℕ) (r : ℕ) (i : Inputs) where
   performed_alike m (Compare x) a b c = alike refl
 
   allowed_alike : (m : Machine) (o : Operation) (a b c : ℕ) (k : Checked) → Alike p (allowed i m o a b c k) (allowed other (sent_before p m) o a b c k)
-  allowed_alike m o a b c Passes = performed_alike m o a b c
-  allowed_alike m o a b c (Refuses f) = alike refl
+  allowed_alike m o a b c (Ok _) = performed_alike m o a b c
+  allowed_alike m o a b c (Err f) = alike refl
 
   as_alike : (m : Machine) (a b c : ℕ) (k : Built) → Alike p (obeyed_as i m a b c k) (obeyed_as other (sent_before p m) a b c k)
-  as_alike m a b c No = alike refl
-  as_alike m a b c (As o k) = allowed_alike m o a b c (checked k m.cells a b c)
+  as_alike m a b c None = alike refl
+  as_alike m a b c (Some (o, k)) = allowed_alike m o a b c (checked k m.cells a b c)
 
   obeyed_alike : (m : Machine) (w : ℕ) → Alike p (obeyed i m w) (obeyed other (sent_before p m) w)
   unfolding obeyed
@@ -168,8 +159,8 @@ module _ (p : List ℕ) (r : ℕ) (i : Inputs) where
 
   fetched_alike : (m : Machine) (x : Cell) → Alike p (fetched i m x) (fetched other (sent_before p m) x)
   unfolding fetched
-  fetched_alike m Foreign = alike refl
-  fetched_alike m (Owned w) =
+  fetched_alike m None = alike refl
+  fetched_alike m (Some w) =
       either_alike (order_fits m.state w) (traced i m w (as_done m.state w)) (undone BadAddress m)
       (traced other (sent_before p m) w (as_done m.state w)) (undone BadAddress (sent_before p m))
       (traced_alike m w (as_done m.state w)) (alike refl)

@@ -1,4 +1,5 @@
 -- What a stop shows is a word, where each cell holds one: by a walk over all orders. Assumes nothing.
+use Rattle.std.proofs.Common.{Err, None, Ok, Some}
 use Prim.Native.Nat.{ℕ, zero, suc, ◌+◌, ◌-◌, ◌≤◌}
 use mathlib.Core.Path.{◌≡◌, refl}
 use mathlib.Core.Bool.{Bool, true, false}
@@ -13,17 +14,8 @@ use Rattle.rules.specs.Codes.{codes, lookup, checked}
 use Rattle.rules.specs.Machine.{Machine, Inputs, Answer, is_traced, is_tracing, onward, done, undone}
 use Rattle.rules.specs.Orders.{reckoned_by, stops_by_loss, reckoned, cond_stopped, gone, changed_word, changed, cards_punched, punch_size, punched, read, performed}
 use Rattle.rules.specs.Running.{allowed, obeyed_as, code_done, obeyed, as_done, order_fits, trace_sent, trace_size, traced, fetched, step, run_from}
-use Rattle.rules.specs.declared.Cell.{Cell}
-use Rattle.rules.specs.declared.Cell.TheVariants.{Foreign, Owned}
-use Rattle.rules.specs.declared.Reckoned.{Reckoned}
-use Rattle.rules.specs.declared.Reckoned.TheVariants.{Result, Refused}
-use Rattle.rules.specs.declared.Judged.{Judged}
-use Rattle.rules.specs.declared.Judged.TheVariants.{Fits, Fails}
+use Rattle.rules.specs.Answers.{Built, Cell, Checked, Judged, Reckoned}
 use Rattle.rules.specs.declared.Refusal.TheVariants.{BadAddress, NoRoom}
-use Rattle.rules.specs.declared.Checked.{Checked}
-use Rattle.rules.specs.declared.Checked.TheVariants.{Passes, Refuses}
-use Rattle.rules.specs.declared.Built.{Built}
-use Rattle.rules.specs.declared.Built.TheVariants.{As, No}
 use Rattle.rules.specs.declared.Operation.{Operation}
 use Rattle.rules.specs.declared.Operation.TheVariants.{Reckon, Move, Go, Loop, Change, Read, Pch, Trace, MoveBlock, Compare}
 use Rattle.rules.specs.declared.Going.{Going}
@@ -45,9 +37,9 @@ either_shows false x y p q = q
 
 module _ (i : Inputs) where
   reckoning_shows : (t : Bool) (m : Machine) (c : ℕ) (r : Reckoned) → IsWord r → ShowsWord (reckoned t m c r)
-  reckoning_shows true m c (Result w) f = f
-  reckoning_shows false m c (Result w) f = omega arith
-  reckoning_shows t m c (Refused r) f = omega arith
+  reckoning_shows true m c (Ok w) f = f
+  reckoning_shows false m c (Ok w) f = omega arith
+  reckoning_shows t m c (Err r) f = omega arith
 
   stop_shows : (m : Machine) (t : Bool) (b c : ℕ) → Words m → ShowsWord (cond_stopped t m b c)
   stop_shows m true b c h = h b
@@ -64,12 +56,12 @@ module _ (i : Inputs) where
   going_shows m Noop b c h = omega arith
 
   changing_shows : (m : Machine) (b : ℕ) (r : Reckoned) → ShowsWord (changed m b r)
-  changing_shows m b (Result w) = omega arith
-  changing_shows m b (Refused r) = omega arith
+  changing_shows m b (Ok w) = omega arith
+  changing_shows m b (Err r) = omega arith
 
   reading_shows : (m : Machine) (j : Judged) → ShowsWord (read i m j)
-  reading_shows m (Fits end) = omega arith
-  reading_shows m (Fails r) = omega arith
+  reading_shows m (Ok end) = omega arith
+  reading_shows m (Err r) = omega arith
 
   performed_shows : (m : Machine) (o : Operation) (a b c : ℕ) → Words m → ShowsWord (performed i m o a b c)
   unfolding performed punched
@@ -89,12 +81,12 @@ module _ (i : Inputs) where
   performed_shows m (Compare x) a b c h = omega arith
 
   allowed_shows : (m : Machine) (o : Operation) (a b c : ℕ) (k : Checked) → Words m → ShowsWord (allowed i m o a b c k)
-  allowed_shows m o a b c Passes h = performed_shows m o a b c h
-  allowed_shows m o a b c (Refuses r) h = omega arith
+  allowed_shows m o a b c (Ok _) h = performed_shows m o a b c h
+  allowed_shows m o a b c (Err r) h = omega arith
 
   obeyed_as_shows : (m : Machine) (a b c : ℕ) (k : Built) → Words m → ShowsWord (obeyed_as i m a b c k)
-  obeyed_as_shows m a b c No h = omega arith
-  obeyed_as_shows m a b c (As o k) h = allowed_shows m o a b c (checked k m.cells a b c) h
+  obeyed_as_shows m a b c None h = omega arith
+  obeyed_as_shows m a b c (Some (o, k)) h = allowed_shows m o a b c (checked k m.cells a b c) h
 
   obeyed_shows : (m : Machine) (w : ℕ) → Words m → ShowsWord (obeyed i m w)
   unfolding obeyed
@@ -111,8 +103,8 @@ module _ (i : Inputs) where
 
   fetched_shows : (m : Machine) (x : Cell) → Words m → ShowsWord (fetched i m x)
   unfolding fetched
-  fetched_shows m Foreign h = omega arith
-  fetched_shows m (Owned w) h =
+  fetched_shows m None h = omega arith
+  fetched_shows m (Some w) h =
       either_shows (order_fits m.state w) (traced i m w (as_done m.state w)) (undone BadAddress m) (traced_shows m w (as_done m.state w) h)
       (omega arith)
 

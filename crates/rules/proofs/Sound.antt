@@ -1,5 +1,6 @@
 -- What holds of the machine between any two orders of a run that passed its entry checks: its cells and state would pass them again.
 -- Each order stores words alone and keeps every number of the state within its bounds. Assumes nothing.
+use Rattle.std.proofs.Common.{None, Some}
 use Prim.Native.Nat.{ℕ, zero, suc, ◌≤◌}
 use mathlib.Core.Path.{◌≡◌, refl, ap, ◌∙◌}
 use mathlib.Core.List.{List, [], ◌∷◌}
@@ -13,8 +14,7 @@ use Rattle.rules.specs.Drum.{cell_at, word_at, store, is_owned, marks_of, marks_
 use Rattle.rules.specs.Decks.{may_stand}
 use Rattle.rules.specs.Machine.{count_a, count_b, count_c}
 use Rattle.rules.specs.Running.{box_fits, state_fits}
-use Rattle.rules.specs.declared.Cell.{Cell}
-use Rattle.rules.specs.declared.Cell.TheVariants.{Foreign, Owned}
+use Rattle.rules.specs.Answers.{Cell}
 use Rattle.rules.specs.declared.State.{State}
 use Rattle.rules.proofs.Tests.{both_first, both_second}
 
@@ -28,21 +28,21 @@ pub record Cells (v : List Cell) : Type 0 where
 pub all_words : (v : List Cell) → words_fit v ≡ true → (a : ℕ) → word_at v a ≤ 19999999999
 unfolding words_fit
 all_words [] e a = omega arith
-all_words (Foreign ∷ v) e zero = omega arith
-all_words (Owned w ∷ v) e zero = leb-true w 19999999999 (both_first (is_word w) (words_fit v) e)
+all_words (None ∷ v) e zero = omega arith
+all_words (Some w ∷ v) e zero = leb-true w 19999999999 (both_first (is_word w) (words_fit v) e)
 all_words (c ∷ v) e (suc a) = all_words v (both_second (word_fits c) (words_fit v) e) a
 
 pub words_fit_lem : (v : List Cell) → ((a : ℕ) → word_at v a ≤ 19999999999) → words_fit v ≡ true
 unfolding words_fit
 words_fit_lem [] h = refl
-words_fit_lem (Foreign ∷ v) h = words_fit_lem v (λ a. h (suc a))
-words_fit_lem (Owned w ∷ v) h = rw (le-leb w 19999999999 (h 0)) (words_fit_lem v (λ a. h (suc a)))
+words_fit_lem (None ∷ v) h = words_fit_lem v (λ a. h (suc a))
+words_fit_lem (Some w ∷ v) h = rw (le-leb w 19999999999 (h 0)) (words_fit_lem v (λ a. h (suc a)))
 
 pub marks_of_fit : (v : List Cell) → marks_fit (marks_of v) ≡ true
 unfolding marks_fit marks_of
 marks_of_fit [] = refl
-marks_of_fit (Foreign ∷ v) = marks_of_fit v
-marks_of_fit (Owned w ∷ v) = marks_of_fit v
+marks_of_fit (None ∷ v) = marks_of_fit v
+marks_of_fit (Some w ∷ v) = marks_of_fit v
 
 store_long : (v : List Cell) (a w : ℕ) → length (store v a w) ≡ length v
 store_long [] a w = refl

@@ -1,4 +1,5 @@
 -- One change each keeps the machine sound: a store of a word, a step of the location, a card, a loop, a card read. Assumes nothing.
+use Rattle.std.proofs.Common.{Err, Ok}
 use Prim.Native.Nat.{ℕ, zero, suc, ◌+◌, ◌-◌, ◌≤◌, ◌<◌, max}
 use mathlib.Core.Path.{◌≡◌, refl, ap}
 use mathlib.Core.List.{List, [], ◌∷◌}
@@ -13,10 +14,8 @@ use Rattle.rules.specs.Drum.{word_at}
 use Rattle.rules.specs.Decks.{data_in, data_from, words_stored, cards_stored, may_stand}
 use Rattle.rules.specs.Machine.{Machine, Inputs, Answer, count_a, count_b, count_c, counting, clear_box, numbered, read_to, tracing_set, is_traced, with_state, stored, sending, going_to, onward}
 use Rattle.rules.specs.Orders.{reckoned, is_negative, cond_stopped, gone, raise, raised, named, largest, changed, compared_to, five, card_punched, cards_punched, cells_moved, tracing_to, erased, retraced}
-use Rattle.rules.specs.declared.Cell.{Cell}
+use Rattle.rules.specs.Answers.{Cell, Reckoned}
 use Rattle.rules.specs.declared.State.{State}
-use Rattle.rules.specs.declared.Reckoned.{Reckoned}
-use Rattle.rules.specs.declared.Reckoned.TheVariants.{Result, Refused}
 use Rattle.rules.specs.declared.Going.{Going}
 use Rattle.rules.specs.declared.Going.TheVariants.{UncStop, CondStop, TrSgn, TrExp, Tr, TrSubr, Noop}
 use Rattle.rules.specs.declared.Address.{Address}
@@ -176,8 +175,8 @@ module _ {deck : List ℕ} {behind : ℕ} where
 
   pub reckons : (t : Bool) (m : Machine) (c : ℕ) (r : Reckoned) → IsWord r → m.state.location ≤ 999 → Sound deck behind m
       → Sound deck behind (reckoned t m c r).machine
-  reckons t m c (Result w) f l h = goes_on l (stores 0 w f (stores c w f h))
-  reckons t m c (Refused r) f l h = h
+  reckons t m c (Ok w) f l h = goes_on l (stores 0 w f (stores c w f h))
+  reckons t m c (Err r) f l h = h
 
   stops_if : (t : Bool) (m : Machine) (b c : ℕ) → c ≤ 999 → Sound deck behind m → Sound deck behind (cond_stopped t m b c).machine
   stops_if true m b c k h = goes c (omega arith) h
@@ -213,8 +212,8 @@ module _ {deck : List ℕ} {behind : ℕ} where
 
   pub changes : (m : Machine) (b : ℕ) (r : Reckoned) → IsWord r → m.state.location ≤ 999 → Sound deck behind m
       → Sound deck behind (changed m b r).machine
-  changes m b (Result w) f l h = goes_on l (stores b w f h)
-  changes m b (Refused r) f l h = h
+  changes m b (Ok w) f l h = goes_on l (stores b w f h)
+  changes m b (Err r) f l h = h
 
   pub compares : (m : Machine) (x : Address) (a b c : ℕ) → c ≤ 999 → m.state.location ≤ 999 → Sound deck behind m
       → Sound deck behind (compared_to m x a b c)

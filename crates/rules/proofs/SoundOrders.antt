@@ -1,4 +1,5 @@
 -- Every order, and so every run, keeps the machine sound: by a walk over all orders. Assumes nothing.
+use Rattle.std.proofs.Common.{Err, None, Ok, Some}
 use Prim.Native.Nat.{ℕ, zero, suc, ◌+◌, ◌-◌, ◌≤◌}
 use mathlib.Core.Path.{◌≡◌, refl}
 use mathlib.Core.Bool.{Bool, true, false}
@@ -14,15 +15,8 @@ use Rattle.rules.specs.Codes.{codes, lookup, checked}
 use Rattle.rules.specs.Machine.{Machine, Inputs, Answer, is_traced, is_tracing, onward, done, undone}
 use Rattle.rules.specs.Orders.{reckoned_by, stops_by_loss, largest, changed_word, cards_punched, punch_size, punched, read, performed}
 use Rattle.rules.specs.Running.{allowed, obeyed_as, code_done, obeyed, as_done, order_fits, trace_sent, trace_size, traced, fetched, step, run_from}
-use Rattle.rules.specs.declared.Cell.{Cell}
-use Rattle.rules.specs.declared.Cell.TheVariants.{Foreign, Owned}
-use Rattle.rules.specs.declared.Judged.{Judged}
-use Rattle.rules.specs.declared.Judged.TheVariants.{Fits, Fails}
+use Rattle.rules.specs.Answers.{Built, Cell, Checked, Judged}
 use Rattle.rules.specs.declared.Refusal.TheVariants.{BadAddress, NoRoom}
-use Rattle.rules.specs.declared.Checked.{Checked}
-use Rattle.rules.specs.declared.Checked.TheVariants.{Passes, Refuses}
-use Rattle.rules.specs.declared.Built.{Built}
-use Rattle.rules.specs.declared.Built.TheVariants.{As, No}
 use Rattle.rules.specs.declared.Operation.{Operation}
 use Rattle.rules.specs.declared.Operation.TheVariants.{Reckon, Move, Go, Loop, Change, Read, Pch, Trace, MoveBlock, Compare}
 use Rattle.rules.proofs.Tests.{both_second}
@@ -37,13 +31,13 @@ module _ (i : Inputs) (behind : ℕ) (tail : Tail i.deck behind) where
   Keeps m x = Sound i.deck behind m → Sound i.deck behind x.machine
 
   reads : (m : Machine) (b c : ℕ) → m.state.location ≤ 999 → (j : Judged) → judged_from i.deck m.state.reader b c ≡ j → Keeps m (read i m j)
-  reads m b c l (Fits end) e h =
+  reads m b c l (Ok end) e h =
       let f = tail_from i.deck behind m.state.reader tail h.state.reader in
       goes_on l
       (reads_to m (cards_stored end (data_from i.deck m.state.reader) m.cells) end
       (cards_stored_lem i.deck m.state.reader end f.tail h.cells)
       (read_leaves i.deck behind m.state.reader b c end tail h.state.reader e) h)
-  reads m b c l (Fails r) e h = h
+  reads m b c l (Err r) e h = h
 
   performs : (m : Machine) (o : Operation) (a b c : ℕ) → b ≤ 999 → c ≤ 999 → m.state.location ≤ 999 → Keeps m (performed i m o a b c)
   unfolding performed punched
@@ -68,12 +62,12 @@ module _ (i : Inputs) (behind : ℕ) (tail : Tail i.deck behind) where
   performs m (Compare x) a b c j k l h = compares m x a b c k l h
 
   alloweds : (m : Machine) (o : Operation) (a b c : ℕ) (k : Checked) → b ≤ 999 → c ≤ 999 → m.state.location ≤ 999 → Keeps m (allowed i m o a b c k)
-  alloweds m o a b c Passes p q l h = performs m o a b c p q l h
-  alloweds m o a b c (Refuses r) p q l h = h
+  alloweds m o a b c (Ok _) p q l h = performs m o a b c p q l h
+  alloweds m o a b c (Err r) p q l h = h
 
   obeys_as : (m : Machine) (a b c : ℕ) (k : Built) → b ≤ 999 → c ≤ 999 → m.state.location ≤ 999 → Keeps m (obeyed_as i m a b c k)
-  obeys_as m a b c No p q l h = h
-  obeys_as m a b c (As o k) p q l h = alloweds m o a b c (checked k m.cells a b c) p q l h
+  obeys_as m a b c None p q l h = h
+  obeys_as m a b c (Some (o, k)) p q l h = alloweds m o a b c (checked k m.cells a b c) p q l h
 
   obeys : (m : Machine) (w : ℕ) → m.state.location ≤ 999 → Keeps m (obeyed i m w)
   unfolding obeyed
@@ -90,8 +84,8 @@ module _ (i : Inputs) (behind : ℕ) (tail : Tail i.deck behind) where
 
   fetches : (m : Machine) (x : Cell) → m.state.location ≤ 999 → Keeps m (fetched i m x)
   unfolding fetched
-  fetches m Foreign l h = h
-  fetches m (Owned w) l h =
+  fetches m None l h = h
+  fetches m (Some w) l h =
       either_sound (order_fits m.state w) (traced i m w (as_done m.state w)) (undone BadAddress m) (traceds m w (as_done m.state w) l h) h
 
   pub step_sound : (m : Machine) → Keeps m (step i m)

@@ -1,5 +1,6 @@
 -- What the next order of a machine comes to, by inputs that differ in their switches and requests: it is refused before it is performed, by all
 -- of them alike, or all of them perform the same operation on the same machine. Assumes nothing.
+use Rattle.std.proofs.Common.{Err, None, Ok, Some}
 use Prim.Native.Nat.{ℕ, ◌+◌}
 use mathlib.Core.Path.{◌≡◌, refl}
 use mathlib.Core.Bool.{Bool, true, false}
@@ -11,16 +12,11 @@ use Rattle.rules.specs.Codes.{codes, lookup, checked}
 use Rattle.rules.specs.Machine.{Machine, Requests, Inputs, Answer, is_traced, is_tracing, undone}
 use Rattle.rules.specs.Orders.{performed}
 use Rattle.rules.specs.Running.{allowed, obeyed_as, code_done, obeyed, as_done, order_fits, trace_sent, trace_size, traced, fetched, step}
-use Rattle.rules.specs.declared.Cell.{Cell}
-use Rattle.rules.specs.declared.Cell.TheVariants.{Foreign, Owned}
+use Rattle.rules.specs.Answers.{Built, Cell, Checked}
 use Rattle.rules.specs.declared.Switches.{Switches}
 use Rattle.rules.specs.declared.Refusal.{Refusal}
 use Rattle.rules.specs.declared.Refusal.TheVariants.{BadAddress, Unmarked, NoRoom, NotBuilt}
-use Rattle.rules.specs.declared.Checked.{Checked}
-use Rattle.rules.specs.declared.Checked.TheVariants.{Passes, Refuses}
 use Rattle.rules.specs.declared.Class.{Class}
-use Rattle.rules.specs.declared.Built.{Built}
-use Rattle.rules.specs.declared.Built.TheVariants.{As, No}
 use Rattle.rules.specs.declared.Operation.{Operation}
 
 -- the same but for the switches and the requests
@@ -30,10 +26,10 @@ inputs_with s q i = record { deck = i.deck; room = i.room; switches = s; request
 -- The order in the machine's cell, done as w, is the operation o; it is performed on u, which is m but for a trace card.
 pub record Performs (m u : Machine) (w : ℕ) (o : Operation) : Type 0 where
   pub order : ℕ
-  pub cell : cell_at m.cells m.state.location ≡ Owned order
+  pub cell : cell_at m.cells m.state.location ≡ Some order
   pub is_done_as : as_done m.state order ≡ w
   pub class : Class
-  pub built : lookup (code_done (is_traced m.state) w) codes ≡ As o class
+  pub built : lookup (code_done (is_traced m.state) w) codes ≡ Some (o, class)
   pub same_cells : u.cells ≡ m.cells
   pub same_location : u.state.location ≡ m.state.location
 
@@ -41,20 +37,20 @@ pub record Performs (m u : Machine) (w : ℕ) (o : Operation) : Type 0 where
 module _ (i : Inputs) (P : (Switches → Requests → Answer) → Type 0) (m : Machine) (not : (r : Refusal) (u : Machine) → P (λ s q. undone r u))
     (did : (u : Machine) (w : ℕ) (o : Operation) → Performs m u w o → P (λ s q. performed (inputs_with s q i) u o (a_in w) (b_in w) (c_in w))) where
   -- the word w₀ in the cell, and the machine on which it is performed
-  module _ (w₀ : ℕ) (e : cell_at m.cells m.state.location ≡ Owned w₀) where
+  module _ (w₀ : ℕ) (e : cell_at m.cells m.state.location ≡ Some w₀) where
     abbrev w : ℕ
     w = as_done m.state w₀
 
     module _ (u : Machine) (f : u.cells ≡ m.cells) (g : u.state.location ≡ m.state.location) where
-      by_checks : (o : Operation) (k : Class) → lookup (code_done (is_traced m.state) w) codes ≡ As o k → (x : Checked)
+      by_checks : (o : Operation) (k : Class) → lookup (code_done (is_traced m.state) w) codes ≡ Some (o, k) → (x : Checked)
           → P (λ s q. allowed (inputs_with s q i) u o (a_in w) (b_in w) (c_in w) x)
-      by_checks o k h Passes =
+      by_checks o k h (Ok _) =
           did u w o (record { order = w₀; cell = e; is_done_as = refl; class = k; built = h; same_cells = f; same_location = g })
-      by_checks o k h (Refuses r) = not r u
+      by_checks o k h (Err r) = not r u
 
       by_code : (x : Built) → lookup (code_done (is_traced m.state) w) codes ≡ x → P (λ s q. obeyed_as (inputs_with s q i) u (a_in w) (b_in w) (c_in w) x)
-      by_code No h = not NotBuilt u
-      by_code (As o k) h = by_checks o k h (checked k u.cells (a_in w) (b_in w) (c_in w))
+      by_code None h = not NotBuilt u
+      by_code (Some (o, k)) h = by_checks o k h (checked k u.cells (a_in w) (b_in w) (c_in w))
 
     told_as : P (λ s q. obeyed (inputs_with s q i) (trace_sent m w₀ w) w)
     unfolding obeyed
@@ -84,8 +80,8 @@ module _ (i : Inputs) (P : (Switches → Requests → Answer) → Type 0) (m : M
 
   by_cell : (x : Cell) → cell_at m.cells m.state.location ≡ x → P (λ s q. fetched (inputs_with s q i) m x)
   unfolding fetched
-  by_cell Foreign e = not Unmarked m
-  by_cell (Owned w₀) e = by_sums w₀ e (order_fits m.state w₀)
+  by_cell None e = not Unmarked m
+  by_cell (Some w₀) e = by_sums w₀ e (order_fits m.state w₀)
 
   by_location : (t : Bool) → P (λ s q. pick t (fetched (inputs_with s q i) m (cell_at m.cells m.state.location)) (undone BadAddress m))
   by_location true = by_cell (cell_at m.cells m.state.location) refl

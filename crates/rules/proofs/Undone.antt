@@ -1,5 +1,6 @@
 -- What a refused order leaves: itself undone, and nothing but its trace card. Every refusal is answered with the machine as the order
 -- found it, and so is the stop 00. Assumes nothing.
+use Rattle.std.proofs.Common.{Err, None, Ok, Some}
 use Prim.Native.Nat.{ℕ, ◌+◌, ◌-◌}
 use mathlib.Core.Path.{◌≡◌, refl}
 use mathlib.Core.Logic.{inl, inr}
@@ -14,17 +15,8 @@ use Rattle.rules.specs.Codes.{codes, lookup, code_in, checked, pch_code}
 use Rattle.rules.specs.Machine.{Machine, Inputs, Answer, is_traced, is_tracing, onward, done, undone}
 use Rattle.rules.specs.Orders.{reckoned_by, stops_by_loss, reckoned, cond_stopped, gone, changed_word, changed, punch_size, cards_punched, punched, read, performed}
 use Rattle.rules.specs.Running.{allowed, obeyed_as, code_done, obeyed, as_done, order_fits, trace_sent, trace_size, traced, fetched, step, Left}
-use Rattle.rules.specs.declared.Cell.{Cell}
-use Rattle.rules.specs.declared.Cell.TheVariants.{Foreign, Owned}
-use Rattle.rules.specs.declared.Reckoned.{Reckoned}
-use Rattle.rules.specs.declared.Reckoned.TheVariants.{Result, Refused}
-use Rattle.rules.specs.declared.Judged.{Judged}
-use Rattle.rules.specs.declared.Judged.TheVariants.{Fits, Fails}
+use Rattle.rules.specs.Answers.{Built, Cell, Checked, Judged, Reckoned}
 use Rattle.rules.specs.declared.Refusal.TheVariants.{BadAddress, NoRoom}
-use Rattle.rules.specs.declared.Checked.{Checked}
-use Rattle.rules.specs.declared.Checked.TheVariants.{Passes, Refuses}
-use Rattle.rules.specs.declared.Built.{Built}
-use Rattle.rules.specs.declared.Built.TheVariants.{As, No}
 use Rattle.rules.specs.declared.Operation.{Operation}
 use Rattle.rules.specs.declared.Operation.TheVariants.{Reckon, Move, Go, Loop, Change, Read, Pch, Trace, MoveBlock, Compare}
 use Rattle.rules.specs.declared.Going.{Going}
@@ -40,21 +32,21 @@ pick_stays m true x y p q = p
 pick_stays m false x y p q = q
 
 reckoned_stays : (t : Bool) (m : Machine) (c : ℕ) (r : Reckoned) → Stays m (reckoned t m c r)
-reckoned_stays true m c (Result w) = false_true
-reckoned_stays false m c (Result w) = false_true
-reckoned_stays t m c (Refused r) = λ e. refl
+reckoned_stays true m c (Ok w) = false_true
+reckoned_stays false m c (Ok w) = false_true
+reckoned_stays t m c (Err r) = λ e. refl
 
 changed_stays : (m : Machine) (b : ℕ) (r : Reckoned) → Stays m (changed m b r)
-changed_stays m b (Result w) = false_true
-changed_stays m b (Refused r) = λ e. refl
+changed_stays m b (Ok w) = false_true
+changed_stays m b (Err r) = λ e. refl
 
 cond_stays : (t : Bool) (m : Machine) (b c : ℕ) → Stays m (cond_stopped t m b c)
 cond_stays true m b c = false_true
 cond_stays false m b c = false_true
 
 read_stays : (i : Inputs) (m : Machine) (j : Judged) → Stays m (read i m j)
-read_stays i m (Fits end) = false_true
-read_stays i m (Fails r) = λ e. refl
+read_stays i m (Ok end) = false_true
+read_stays i m (Err r) = λ e. refl
 
 punched_stays : (i : Inputs) (m : Machine) (b n : ℕ) → Stays m (punched i m b n)
 unfolding punched
@@ -86,12 +78,12 @@ performed_stays i m MoveBlock a b c = false_true
 performed_stays i m (Compare x) a b c = false_true
 
 allowed_stays : (i : Inputs) (m : Machine) (o : Operation) (a b c : ℕ) (k : Checked) → Stays m (allowed i m o a b c k)
-allowed_stays i m o a b c Passes = performed_stays i m o a b c
-allowed_stays i m o a b c (Refuses r) = λ e. refl
+allowed_stays i m o a b c (Ok _) = performed_stays i m o a b c
+allowed_stays i m o a b c (Err r) = λ e. refl
 
 as_stays : (i : Inputs) (m : Machine) (a b c : ℕ) (k : Built) → Stays m (obeyed_as i m a b c k)
-as_stays i m a b c No = λ e. refl
-as_stays i m a b c (As o k) = allowed_stays i m o a b c (checked k m.cells a b c)
+as_stays i m a b c None = λ e. refl
+as_stays i m a b c (Some (o, k)) = allowed_stays i m o a b c (checked k m.cells a b c)
 
 pub obeyed_stays : (i : Inputs) (m : Machine) (w : ℕ) → Stays m (obeyed i m w)
 unfolding obeyed
@@ -105,7 +97,7 @@ pick_leaves : (m : Machine) (t : Bool) (x y : Answer) → Leaves m x → Leaves 
 pick_leaves m true x y p q = p
 pick_leaves m false x y p q = q
 
-traced_leaves : (i : Inputs) (m : Machine) (w : ℕ) → cell_at m.cells m.state.location ≡ Owned w
+traced_leaves : (i : Inputs) (m : Machine) (w : ℕ) → cell_at m.cells m.state.location ≡ Some w
     → Leaves m (traced i m w (as_done m.state w))
 unfolding traced
 traced_leaves i m w q =
@@ -118,8 +110,8 @@ traced_leaves i m w q =
 
 fetched_leaves : (i : Inputs) (m : Machine) (x : Cell) → cell_at m.cells m.state.location ≡ x → Leaves m (fetched i m x)
 unfolding fetched
-fetched_leaves i m Foreign q = λ e. inl refl
-fetched_leaves i m (Owned w) q =
+fetched_leaves i m None q = λ e. inl refl
+fetched_leaves i m (Some w) q =
     pick_leaves m (order_fits m.state w) (traced i m w (as_done m.state w)) (undone BadAddress m) (traced_leaves i m w q) (λ e. inl refl)
 
 pub step_leaves : (i : Inputs) (m : Machine) → Leaves m (step i m)

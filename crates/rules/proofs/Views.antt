@@ -1,4 +1,5 @@
 -- Laws of the view, the marks and the overlay. Each goes cell by cell along the lists. Assumes nothing.
+use Rattle.std.proofs.Common.{None, Some}
 use Prim.Native.Nat.{ℕ, zero, suc, ◌≤◌, ◌<◌}
 use mathlib.Core.Path.{◌≡◌, refl, sym, ap, ◌∙◌}
 use mathlib.Core.List.{List, [], ◌∷◌}
@@ -10,8 +11,7 @@ use lib.ListN.{length, get_or, set}
 use borrow.Author.Tests.{leb-true, eqb-true}
 use Rattle.rules.specs.Words.{both}
 use Rattle.rules.specs.Drum.{cell_of, view, store, mark_of, marks_of, number_over, overlay, marks_fit, words_fit, drum_fits}
-use Rattle.rules.specs.declared.Cell.{Cell}
-use Rattle.rules.specs.declared.Cell.TheVariants.{Foreign, Owned}
+use Rattle.rules.specs.Answers.{Cell}
 use Rattle.rules.proofs.Tests.{both_first, both_second}
 
 -- ---- lengths
@@ -86,8 +86,8 @@ store_grows (c ∷ v) (suc a) w zero e = e
 store_grows (c ∷ v) (suc a) w (suc i) e = store_grows v a w i e
 
 number_kept : (c : Cell) (d : ℕ) → mark_of c ≡ 0 → number_over c d ≡ d
-number_kept Foreign d e = refl
-number_kept (Owned w) d e = let z : ⊥ = omega arith in absurd z
+number_kept None d e = refl
+number_kept (Some w) d e = let z : ⊥ = omega arith in absurd z
 
 pub overlay_kept : (ds : List ℕ) (v : List Cell) (i : ℕ) → get_or (marks_of v) i 0 ≡ 0 → get_or (overlay ds v) i 0 ≡ get_or ds i 0
 unfolding overlay marks_of
@@ -110,8 +110,8 @@ length_marks [] = refl
 length_marks (c ∷ v) = ap suc (length_marks v)
 
 cell_again : (c : Cell) (d : ℕ) → cell_of (mark_of c) (number_over c d) ≡ c
-cell_again Foreign d = refl
-cell_again (Owned w) d = refl
+cell_again None d = refl
+cell_again (Some w) d = refl
 
 -- the cells that drum and marks show are the cells that were laid over
 pub view_again : (ds : List ℕ) (v : List Cell) → length ds ≡ length v → view (overlay ds v) (marks_of v) ≡ v

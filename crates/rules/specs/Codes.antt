@@ -1,11 +1,11 @@
 -- The built codes, in the order of the newsletter's list, each with its operation, operand class and name. A code that is not here is not
 -- built. Checks 20, 21 and 24 go by the class. Assumes nothing.
-use Rattle.std.specs.Prelude.{ℕ, zero, suc, ◌+◌, ◌-◌, ◌*◌, List, [], ◌∷◌, Bool, true, false, eqb, leb, ltb}
+use Rattle.std.specs.Prelude.{ℕ, zero, suc, ◌+◌, ◌-◌, ◌*◌, List, [], ◌∷◌, Bool, true, false, eqb, leb, ltb, Some, None, Ok, Err}
 use Prim.Native.String.{String}
 use Rattle.rules.specs.Bytes.{bytes}
 use Rattle.rules.specs.Words.{pick, both, a_in, first_digit, is_number}
 use Rattle.rules.specs.Drum.{cell_at, is_owned, word_at}
-use Rattle.rules.specs.declared.Cell.{Cell}
+use Rattle.rules.specs.Answers.{Built, Cell, Checked}
 use Rattle.rules.specs.declared.Refusal.{Refusal}
 use Rattle.rules.specs.declared.Refusal.TheVariants.{BadAddress, Unmarked, NotNumber}
 use Rattle.rules.specs.declared.Operation.{Operation}
@@ -17,10 +17,6 @@ use Rattle.rules.specs.declared.Changing.TheVariants.{SetTo, AddTo, SubFrom}
 use Rattle.rules.specs.declared.Tracing.TheVariants.{StartTr, StopTr, StTrEras}
 use Rattle.rules.specs.declared.Class.{Class}
 use Rattle.rules.specs.declared.Class.TheVariants.{Free, TwoNumbers, OneNumber, OneWord, Changed, Linked, BlockOut, BlockIn, BlockMoved, Compared}
-use Rattle.rules.specs.declared.Checked.{Checked}
-use Rattle.rules.specs.declared.Checked.TheVariants.{Passes, Refuses}
-use Rattle.rules.specs.declared.Built.{Built}
-use Rattle.rules.specs.declared.Built.TheVariants.{As, No}
 
 -- A row of the table: a code, what it does, what its addresses are, and the newsletter's alphabetic code, ten letters wide. Where O1 is 0
 -- the code is O2; else O1 stands in the thousands.
@@ -84,8 +80,8 @@ codes =
 
 -- the first row with that code
 unfoldable pub lookup : ℕ → List Row → Built
-lookup k [] = No
-lookup k (r ∷ rs) = pick (eqb k r.code) (As r.operation r.class) (lookup k rs)
+lookup k [] = None
+lookup k (r ∷ rs) = pick (eqb k r.code) (Some (r.operation, r.class)) (lookup k rs)
 
 -- its name; a code that is not built has a dash
 unfoldable pub name_in : ℕ → List Row → List ℕ
@@ -103,12 +99,12 @@ code_in w = pick (eqb (first_digit w) 0) (a_in w) (pick (is_block_move w) 9001 (
 
 -- the second check only where the first found nothing
 abbrev pub and_then : Checked → Checked → Checked
-and_then Passes y = y
-and_then (Refuses r) y = Refuses r
+and_then (Ok _) y = y
+and_then (Err r) y = Err r
 
 abbrev pub unless : Bool → Refusal → Checked
-unless true r = Passes
-unless false r = Refuses r
+unless true r = Ok tt
+unless false r = Err r
 
 -- 20: a block's B is not 000 nor above C; a block of n cells that is moved, or moved to, begins behind 000 and ends at 999 at the latest;
 -- the cell that an order changes, or whose word it compares, is not 000
@@ -119,10 +115,10 @@ abbrev pub block_lies : ℕ → ℕ → Bool
 block_lies b n = both (leb 1 b) (leb (b + n - 1) 999)
 
 abbrev pub address_check : Class → ℕ → ℕ → ℕ → Checked
-address_check Free a b c = Passes
-address_check TwoNumbers a b c = Passes
-address_check OneNumber a b c = Passes
-address_check OneWord a b c = Passes
+address_check Free a b c = Ok tt
+address_check TwoNumbers a b c = Ok tt
+address_check OneNumber a b c = Ok tt
+address_check OneWord a b c = Ok tt
 address_check Changed a b c = unless (leb 1 b) BadAddress
 address_check Linked a b c = unless (leb 1 c) BadAddress
 address_check BlockOut a b c = unless (block_fits b c) BadAddress
@@ -139,29 +135,29 @@ owned_from v b zero = true
 owned_from v b (suc n) = both (owned_from v b n) (owned_at v (b + n))
 
 abbrev pub mark_check : Class → List Cell → ℕ → ℕ → ℕ → Checked
-mark_check Free v a b c = Passes
+mark_check Free v a b c = Ok tt
 mark_check TwoNumbers v a b c = and_then (unless (owned_at v a) Unmarked) (unless (owned_at v b) Unmarked)
 mark_check OneNumber v a b c = unless (owned_at v b) Unmarked
 mark_check OneWord v a b c = unless (owned_at v b) Unmarked
 mark_check Changed v a b c = unless (owned_at v b) Unmarked
 mark_check Linked v a b c = unless (owned_at v c) Unmarked
 mark_check BlockOut v a b c = unless (owned_from v b (c + 1 - b)) Unmarked
-mark_check BlockIn v a b c = Passes
+mark_check BlockIn v a b c = Ok tt
 mark_check BlockMoved v a b c = unless (owned_from v b a) Unmarked
 mark_check Compared v a b c = unless (owned_at v a) Unmarked
 
 -- 24: each operand is a number
 abbrev pub number_check : Class → List Cell → ℕ → ℕ → Checked
-number_check Free v a b = Passes
+number_check Free v a b = Ok tt
 number_check TwoNumbers v a b = and_then (unless (is_number (word_at v a)) NotNumber) (unless (is_number (word_at v b)) NotNumber)
 number_check OneNumber v a b = unless (is_number (word_at v b)) NotNumber
-number_check OneWord v a b = Passes
-number_check Changed v a b = Passes
-number_check Linked v a b = Passes
-number_check BlockOut v a b = Passes
-number_check BlockIn v a b = Passes
-number_check BlockMoved v a b = Passes
-number_check Compared v a b = Passes
+number_check OneWord v a b = Ok tt
+number_check Changed v a b = Ok tt
+number_check Linked v a b = Ok tt
+number_check BlockOut v a b = Ok tt
+number_check BlockIn v a b = Ok tt
+number_check BlockMoved v a b = Ok tt
+number_check Compared v a b = Ok tt
 
 -- the three in their order
 unfoldable pub checked : Class → List Cell → ℕ → ℕ → ℕ → Checked

@@ -1,18 +1,14 @@
 -- A deck cut into its cards; the deck check; and the data cards from a place on: stored, judged for READ, and where a reader may stand.
 -- Assumes nothing.
-use Rattle.std.specs.Prelude.{ℕ, zero, suc, ◌+◌, List, [], ◌∷◌, Bool, true, false, eqb, leb, ltb, length, get_or, drop}
+use Rattle.std.specs.Prelude.{ℕ, zero, suc, ◌+◌, List, [], ◌∷◌, Bool, true, false, eqb, leb, ltb, length, get_or, drop, Ok, Err}
 use Rattle.rules.specs.Words.{pick, both, either}
 use Rattle.rules.specs.Cards.{first_kind, first_size, card_of, word_in, word_place}
 use Rattle.rules.specs.Drum.{store}
-use Rattle.rules.specs.declared.Cell.{Cell}
+use Rattle.rules.specs.Answers.{Cell, Deck, Judged, good}
 use Rattle.rules.specs.declared.Fault.TheVariants.{SecondFirst}
 use Rattle.rules.specs.declared.Card.{Card}
 use Rattle.rules.specs.declared.Card.TheVariants.{Data, First, Bad, End}
 use Rattle.rules.specs.declared.DeckFault.TheVariants.{TooLong, At, NoFirst}
-use Rattle.rules.specs.declared.Deck.{Deck}
-use Rattle.rules.specs.declared.Deck.TheVariants.{Good, Faulty}
-use Rattle.rules.specs.declared.Judged.{Judged}
-use Rattle.rules.specs.declared.Judged.TheVariants.{Fits, Fails}
 use Rattle.rules.specs.declared.Refusal.TheVariants.{Unfit, NoCard}
 
 -- ---- cutting
@@ -54,8 +50,8 @@ cards_from deck from = cut_from 0 from (drop from deck)
 
 -- the card of a piece as the check meets it: behind a first-order card a second one is a fault whatever its bytes
 abbrev pub met : Deck → Piece → Card
-met (Good behind order problem) p = pick (eqb (get_or p.rest 0 0) first_kind) (Bad SecondFirst 0) p.card
-met (Faulty f) p = p.card
+met (Ok start) p = pick (eqb (get_or p.rest 0 0) first_kind) (Bad SecondFirst 0) p.card
+met (Err f) p = p.card
 
 -- The cards in their order, up to the first with a fault; `sofar` is the answer if no more come.
 unfoldable pub checked_from : Deck → List Piece → Deck
@@ -63,15 +59,15 @@ checked_from sofar [] = sofar
 checked_from sofar (p ∷ ps) =
     elim (met sofar p) [
       | Data number location words problem size ↦ checked_from sofar ps
-      | First order problem ↦ checked_from (Good (p.place + first_size) order problem) ps
-      | Bad f b ↦ Faulty (At p.place f (p.place + b))
+      | First order problem ↦ checked_from (good (p.place + first_size) order problem) ps
+      | Bad f b ↦ Err (At p.place f (p.place + b))
       | End ↦ sofar
     ]
 
 -- A deck is at most 65,536 bytes; each card has its form; exactly one is a first-order card. The first fault is told.
 unfoldable pub deck_of : List ℕ → Deck
 deck_of deck =
-    pick (ltb 65536 (length deck)) (Faulty TooLong) (checked_from (Faulty (NoFirst (length deck))) (cards_from deck 0))
+    pick (ltb 65536 (length deck)) (Err TooLong) (checked_from (Err (NoFirst (length deck))) (cards_from deck 0))
 
 -- ---- data cards
 
@@ -118,14 +114,14 @@ fits_block k b c = both (eqb k.location b) (leb (b + k.words) (c + 1))
 -- READ takes cards while a cell from b to c is left to fill, the next of them at place `at`. The first that fails is told, and where
 -- all fit the place behind the last.
 unfoldable pub judged : List DataCard → ℕ → ℕ → ℕ → Judged
-judged [] at b c = pick (ltb c b) (Fits at) (Fails NoCard)
+judged [] at b c = pick (ltb c b) (Ok at) (Err NoCard)
 judged (k ∷ ks) at b c =
     elim (ltb c b) [
-      | true ↦ Fits at
+      | true ↦ Ok at
       | false ↦
           elim (fits_block k b c) [
             | true ↦ judged ks (k.place + k.size) (b + k.words) c
-            | false ↦ Fails Unfit
+            | false ↦ Err Unfit
           ]
     ]
 

@@ -1,15 +1,14 @@
 -- The drum as the job sees it: the view, a list of cells. A cell that the job does not own has no content there, so nothing that is
 -- defined over the view can speak of one. How the view is made from the lent drum and marks, how they are had back from it, and check
 -- 10. Assumes nothing.
-use Rattle.std.specs.Prelude.{ℕ, zero, suc, List, [], ◌∷◌, Bool, true, false, eqb, leb, length, get_or, set}
+use Rattle.std.specs.Prelude.{ℕ, zero, suc, List, [], ◌∷◌, Bool, true, false, eqb, leb, length, get_or, set, Some, None}
 use Rattle.rules.specs.Words.{both, is_word}
-use Rattle.rules.specs.declared.Cell.{Cell}
-use Rattle.rules.specs.declared.Cell.TheVariants.{Foreign, Owned}
+use Rattle.rules.specs.Answers.{Cell}
 
 -- of a mark and the number beside it
 abbrev pub cell_of : ℕ → ℕ → Cell
-cell_of zero w = Foreign
-cell_of (suc m) w = Owned w
+cell_of zero w = None
+cell_of (suc m) w = Some w
 
 unfoldable pub view : List ℕ → List ℕ → List Cell
 view [] ms = []
@@ -17,36 +16,36 @@ view (d ∷ ds) [] = []
 view (d ∷ ds) (m ∷ ms) = cell_of m d ∷ view ds ms
 
 abbrev pub cell_at : List Cell → ℕ → Cell
-cell_at v a = get_or v a Foreign
+cell_at v a = get_or v a None
 
 -- every store marks
 abbrev pub store : List Cell → ℕ → ℕ → List Cell
-store v a w = set v a (Owned w)
+store v a w = set v a (Some w)
 
 abbrev pub is_owned : Cell → Bool
-is_owned Foreign = false
-is_owned (Owned w) = true
+is_owned None = false
+is_owned (Some w) = true
 
 -- the word that a cell shows: +0 where it is unmarked
 abbrev pub shown : Cell → ℕ
-shown Foreign = 0
-shown (Owned w) = w
+shown None = 0
+shown (Some w) = w
 
 abbrev pub word_at : List Cell → ℕ → ℕ
 word_at v a = shown (cell_at v a)
 
 -- What the lent marks and drum hold once the cells are v. A foreign cell's number is the one that was there.
 abbrev pub mark_of : Cell → ℕ
-mark_of Foreign = 0
-mark_of (Owned w) = 1
+mark_of None = 0
+mark_of (Some w) = 1
 
 unfoldable pub marks_of : List Cell → List ℕ
 marks_of [] = []
 marks_of (c ∷ v) = mark_of c ∷ marks_of v
 
 abbrev pub number_over : Cell → ℕ → ℕ
-number_over Foreign d = d
-number_over (Owned w) d = w
+number_over None d = d
+number_over (Some w) d = w
 
 unfoldable pub overlay : List ℕ → List Cell → List ℕ
 overlay [] v = []
@@ -59,8 +58,8 @@ marks_fit [] = true
 marks_fit (m ∷ ms) = both (leb m 1) (marks_fit ms)
 
 abbrev pub word_fits : Cell → Bool
-word_fits Foreign = true
-word_fits (Owned w) = is_word w
+word_fits None = true
+word_fits (Some w) = is_word w
 
 unfoldable pub words_fit : List Cell → Bool
 words_fit [] = true

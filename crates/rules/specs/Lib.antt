@@ -2,6 +2,7 @@ pub mod Words
 pub mod Bytes
 pub mod Rounding
 pub mod Rounded
+pub mod Answers
 pub mod Numbers
 pub mod Arithmetic
 pub mod Drum

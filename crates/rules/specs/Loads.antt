@@ -1,17 +1,13 @@
 -- A whole call of load, with its entry checks. Assumes nothing.
-use Rattle.std.specs.Prelude.{ℕ, List, Bool, true, false, length}
+use Rattle.std.specs.Prelude.{ℕ, List, Bool, true, false, length, Ok, Err}
 use Rattle.rules.specs.Words.{pick}
 use Rattle.rules.specs.Drum.{view, store, marks_of, overlay, drum_fits}
 use Rattle.rules.specs.Decks.{data_from, cards_stored, deck_of}
 use Rattle.rules.specs.Machine.{clear_box}
-use Rattle.rules.specs.declared.Cell.{Cell}
+use Rattle.rules.specs.Answers.{Cell, Deck, Loading}
 use Rattle.rules.specs.declared.State.{State}
-use Rattle.rules.specs.declared.Deck.{Deck}
-use Rattle.rules.specs.declared.Deck.TheVariants.{Good, Faulty}
 use Rattle.rules.specs.declared.Bar.{Bar}
 use Rattle.rules.specs.declared.Bar.TheVariants.{BadDrum, BadDeck}
-use Rattle.rules.specs.declared.Loading.{Loading}
-use Rattle.rules.specs.declared.Loading.TheVariants.{Loaded, NotLoaded}
 
 -- what a call is lent and given, what is answered, and what the lent drum and marks then hold
 pub record LoadCall : Type 0 where
@@ -29,7 +25,7 @@ pub record LoadResult : Type 0 where
 
 -- nothing is changed, and the state is handed back as it came
 abbrev pub not_loaded : LoadCall → Bar → LoadResult
-not_loaded c b = record { loading = NotLoaded b; state = c.state; drum = c.drum; marks = c.marks }
+not_loaded c b = record { loading = Err b; state = c.state; drum = c.drum; marks = c.marks }
 
 -- plain or traced
 abbrev pub mode_of : Bool → ℕ
@@ -55,12 +51,12 @@ abbrev pub cells_loaded : List Cell → List ℕ → ℕ → List Cell
 cells_loaded v deck behind = store (cards_stored behind (data_from deck 0) v) 0 0
 
 unfoldable pub loaded_from : LoadCall → Deck → LoadResult
-loaded_from c (Faulty f) = not_loaded c (BadDeck f)
-loaded_from c (Good behind order problem) =
-    let v = cells_loaded (view c.drum c.marks) c.deck behind in
+loaded_from c (Err f) = not_loaded c (BadDeck f)
+loaded_from c (Ok start) =
+    let v = cells_loaded (view c.drum c.marks) c.deck start.behind in
     record {
-      loading = Loaded;
-      state = fresh behind order problem c.traced;
+      loading = Ok tt;
+      state = fresh start.behind start.order start.problem c.traced;
       drum = overlay c.drum v;
       marks = marks_of v;
     }

@@ -1,13 +1,12 @@
 -- The machine between two orders: its cells, the bytes written so far and its state; what a call lends it; and what an order makes of
 -- it. Assumes nothing.
-use Rattle.std.specs.Prelude.{ℕ, ◌+◌, ◌%◌, List, [], ◌∷◌, ◌++◌, Bool, true, false, eqb, get_or}
+use Rattle.std.specs.Prelude.{ℕ, ◌+◌, ◌%◌, List, [], ◌∷◌, ◌++◌, Bool, true, false, eqb, get_or, Ok, Err}
 use Rattle.rules.specs.Drum.{store}
-use Rattle.rules.specs.declared.Cell.{Cell}
+use Rattle.rules.specs.Answers.{Cell, Outcome}
 use Rattle.rules.specs.declared.State.{State}
 use Rattle.rules.specs.declared.Switches.{Switches}
 use Rattle.rules.specs.declared.Refusal.{Refusal}
-use Rattle.rules.specs.declared.Outcome.{Outcome}
-use Rattle.rules.specs.declared.Outcome.TheVariants.{GoesOn, Undone}
+use Rattle.rules.specs.declared.Done.TheVariants.{GoesOn}
 
 pub record Machine : Type 0 where
   pub cells : List Cell
@@ -145,10 +144,10 @@ onward m = going_to m (m.state.location + 1)
 
 -- the order is done and the run goes on; the order is refused, and nothing of it is left
 abbrev pub done : Machine → Answer
-done m = record { outcome = GoesOn; machine = m }
+done m = record { outcome = Ok GoesOn; machine = m }
 
 abbrev pub undone : Refusal → Machine → Answer
-undone r m = record { outcome = Undone r; machine = m }
+undone r m = record { outcome = Err r; machine = m }
 
 abbrev pub stops : Outcome → Machine → Answer
 stops o m = record { outcome = o; machine = m }

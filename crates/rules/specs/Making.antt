@@ -1,15 +1,14 @@
 -- A load deck made of a drum's marked cells 001 to 999, so that a prepared drum can be kept. All of it is said over the view. Assumes
 -- nothing.
-use Rattle.std.specs.Prelude.{ℕ, zero, suc, ◌+◌, List, [], ◌∷◌, ◌++◌, Bool, leb, length}
+use Rattle.std.specs.Prelude.{ℕ, zero, suc, ◌+◌, List, [], ◌∷◌, ◌++◌, Bool, leb, length, Ok, Err}
 use Rattle.rules.specs.Words.{pick, both}
 use Rattle.rules.specs.Drum.{view, drum_fits}
 use Rattle.rules.specs.Cards.{data_card, first_card}
 use Rattle.rules.specs.Codes.{owned_at}
 use Rattle.rules.specs.Orders.{words_from}
 use Rattle.rules.specs.Running.{over}
-use Rattle.rules.specs.declared.Cell.{Cell}
-use Rattle.rules.specs.declared.Making.{Making}
-use Rattle.rules.specs.declared.Making.TheVariants.{Made, UnfitDrum, UnfitNumber, Full}
+use Rattle.rules.specs.Answers.{Cell, Making}
+use Rattle.rules.specs.declared.Unmade.TheVariants.{Full, UnfitDrum, UnfitNumber}
 
 -- ---- which cells go on which card
 
@@ -69,7 +68,7 @@ not_made c x = record { making = x; out = c.out }
 -- the deck over the start of the output, if there is room for all of it
 unfoldable pub made_of : MakeCall → List ℕ → MakeResult
 made_of c deck =
-    pick (leb (length deck) (length c.out)) (record { making = Made (length deck); out = over deck c.out }) (not_made c Full)
+    pick (leb (length deck) (length c.out)) (record { making = Ok (length deck); out = over deck c.out }) (not_made c (Err Full))
 
 -- the first order is 1 to 999, the problem number at most 999
 abbrev pub numbers_fit : ℕ → ℕ → Bool
@@ -80,5 +79,5 @@ unfoldable pub made : MakeCall → MakeResult
 made c =
     let v = view c.drum c.marks in
     pick (drum_fits (length c.drum) c.marks v)
-    (pick (numbers_fit c.order c.problem) (made_of c (deck_made v c.order c.problem)) (not_made c UnfitNumber))
-    (not_made c UnfitDrum)
+    (pick (numbers_fit c.order c.problem) (made_of c (deck_made v c.order c.problem)) (not_made c (Err UnfitNumber)))
+    (not_made c (Err UnfitDrum))

@@ -1,28 +1,19 @@
 -- What each enum of an answer means: this paper's number for each case, and the values that go with it. The numbers 00 to 29 stand
 -- here and nowhere else. Assumes nothing.
-use Rattle.std.specs.Prelude.{ℕ, Bool, true, false}
+use Rattle.std.specs.Prelude.{ℕ, Bool, true, false, Ok, Err}
+use Rattle.rules.specs.Answers.{Deck, Ending, Loading, Making, Outcome, Reckoned}
 use Rattle.rules.specs.declared.Refusal.{Refusal}
 use Rattle.rules.specs.declared.Refusal.TheVariants.{BadAddress, Unmarked, NoRoom, NotBuilt, NotNumber, ZeroDivisor, NegativeRoot, OutOfRange, Unfit, NoCard}
-use Rattle.rules.specs.declared.Reckoned.{Reckoned}
-use Rattle.rules.specs.declared.Reckoned.TheVariants.{Result, Refused}
-use Rattle.rules.specs.declared.Outcome.{Outcome}
 use Rattle.rules.specs.declared.Stop.{Stop}
 use Rattle.rules.specs.declared.Stop.TheVariants.{Unconditional, Conditional, Lost}
-use Rattle.rules.specs.declared.Outcome.TheVariants.{GoesOn, Stops, Undone}
 use Rattle.rules.specs.declared.Fault.{Fault}
 use Rattle.rules.specs.declared.Fault.TheVariants.{UnknownKind, SecondFirst, CutShort, BadByte, BadPlace}
 use Rattle.rules.specs.declared.DeckFault.{DeckFault}
 use Rattle.rules.specs.declared.DeckFault.TheVariants.{TooLong, At, NoFirst}
-use Rattle.rules.specs.declared.Deck.{Deck}
-use Rattle.rules.specs.declared.Deck.TheVariants.{Good, Faulty}
 use Rattle.rules.specs.declared.Bar.{Bar}
 use Rattle.rules.specs.declared.Bar.TheVariants.{BadDrum, BadDeck, BadState}
-use Rattle.rules.specs.declared.Ending.{Ending}
-use Rattle.rules.specs.declared.Ending.TheVariants.{Ran, NotRun}
-use Rattle.rules.specs.declared.Loading.{Loading}
-use Rattle.rules.specs.declared.Loading.TheVariants.{Loaded, NotLoaded}
-use Rattle.rules.specs.declared.Making.{Making}
-use Rattle.rules.specs.declared.Making.TheVariants.{Made, UnfitDrum, UnfitNumber, Full}
+use Rattle.rules.specs.declared.Done.TheVariants.{GoesOn, Stops}
+use Rattle.rules.specs.declared.Unmade.TheVariants.{Full, UnfitDrum, UnfitNumber}
 
 -- why an order is undone
 abbrev pub refusal_number : Refusal → ℕ
@@ -39,12 +30,12 @@ refusal_number NoCard = 29
 
 -- arithmetic on words from outside: 0 and the word, or the number and 0
 abbrev pub reckoned_number : Reckoned → ℕ
-reckoned_number (Result w) = 0
-reckoned_number (Refused r) = refusal_number r
+reckoned_number (Ok w) = 0
+reckoned_number (Err r) = refusal_number r
 
 abbrev pub reckoned_word : Reckoned → ℕ
-reckoned_word (Result w) = w
-reckoned_word (Refused r) = 0
+reckoned_word (Ok w) = w
+reckoned_word (Err r) = 0
 
 -- the stops of orders
 abbrev pub stop_number : Stop → ℕ
@@ -54,27 +45,27 @@ stop_number Lost = 3
 
 -- An order's outcome. A run that may go on, and has no order left to do, has used its budget.
 abbrev pub outcome_number : Outcome → ℕ
-outcome_number (Stops k w) = stop_number k
-outcome_number GoesOn = 2
-outcome_number (Undone r) = refusal_number r
+outcome_number (Ok (Stops k w)) = stop_number k
+outcome_number (Ok GoesOn) = 2
+outcome_number (Err r) = refusal_number r
 
 -- the word shown: +0 but for a stop
 abbrev pub outcome_shown : Outcome → ℕ
-outcome_shown (Stops k w) = w
-outcome_shown GoesOn = 0
-outcome_shown (Undone r) = 0
+outcome_shown (Ok (Stops k w)) = w
+outcome_shown (Ok GoesOn) = 0
+outcome_shown (Err r) = 0
 
 -- how many orders were completed: none where it is undone
 abbrev pub completed : Outcome → ℕ
-completed (Stops k w) = 1
-completed GoesOn = 1
-completed (Undone r) = 0
+completed (Ok (Stops k w)) = 1
+completed (Ok GoesOn) = 1
+completed (Err r) = 0
 
 -- whether the next order may be begun
 abbrev pub may_go_on : Outcome → Bool
-may_go_on (Stops k w) = false
-may_go_on GoesOn = true
-may_go_on (Undone r) = false
+may_go_on (Ok (Stops k w)) = false
+may_go_on (Ok GoesOn) = true
+may_go_on (Err r) = false
 
 -- whether the next run tries the same order again: after the stop 00, and after a refusal
 abbrev pub stays : Stop → Bool
@@ -83,9 +74,9 @@ stays Conditional = false
 stays Lost = false
 
 abbrev pub tries_again : Outcome → Bool
-tries_again (Stops k w) = stays k
-tries_again GoesOn = false
-tries_again (Undone r) = true
+tries_again (Ok (Stops k w)) = stays k
+tries_again (Ok GoesOn) = false
+tries_again (Err r) = true
 
 -- what is wrong with a card
 abbrev pub fault_number : Fault → ℕ
@@ -110,12 +101,12 @@ deck_place (NoFirst n) = n
 
 -- a deck as checked: 0 and 0 where it is good
 abbrev pub check_number : Deck → ℕ
-check_number (Good behind order problem) = 0
-check_number (Faulty f) = deck_number f
+check_number (Ok start) = 0
+check_number (Err f) = deck_number f
 
 abbrev pub check_place : Deck → ℕ
-check_place (Good behind order problem) = 0
-check_place (Faulty f) = deck_place f
+check_place (Ok start) = 0
+check_place (Err f) = deck_place f
 
 -- a call refused at its entry
 abbrev pub bar_number : Bar → ℕ
@@ -130,35 +121,35 @@ bar_place BadState = 0
 
 -- a call of run
 abbrev pub ending_number : Ending → ℕ
-ending_number (Ran o) = outcome_number o
-ending_number (NotRun b) = bar_number b
+ending_number (Ok o) = outcome_number o
+ending_number (Err b) = bar_number b
 
 abbrev pub ending_place : Ending → ℕ
-ending_place (Ran o) = 0
-ending_place (NotRun b) = bar_place b
+ending_place (Ok o) = 0
+ending_place (Err b) = bar_place b
 
 abbrev pub ending_shown : Ending → ℕ
-ending_shown (Ran o) = outcome_shown o
-ending_shown (NotRun b) = 0
+ending_shown (Ok o) = outcome_shown o
+ending_shown (Err b) = 0
 
 -- a call of load: 0 where it is done
 abbrev pub loading_number : Loading → ℕ
-loading_number Loaded = 0
-loading_number (NotLoaded b) = bar_number b
+loading_number (Ok _) = 0
+loading_number (Err b) = bar_number b
 
 abbrev pub loading_place : Loading → ℕ
-loading_place Loaded = 0
-loading_place (NotLoaded b) = bar_place b
+loading_place (Ok _) = 0
+loading_place (Err b) = bar_place b
 
 -- a call of make: 0 and the bytes of the deck, or the number and 0
 abbrev pub making_number : Making → ℕ
-making_number (Made n) = 0
-making_number UnfitDrum = 10
-making_number UnfitNumber = 12
-making_number Full = 22
+making_number (Ok n) = 0
+making_number (Err UnfitDrum) = 10
+making_number (Err UnfitNumber) = 12
+making_number (Err Full) = 22
 
 abbrev pub making_written : Making → ℕ
-making_written (Made n) = n
-making_written UnfitDrum = 0
-making_written UnfitNumber = 0
-making_written Full = 0
+making_written (Ok n) = n
+making_written (Err UnfitDrum) = 0
+making_written (Err UnfitNumber) = 0
+making_written (Err Full) = 0

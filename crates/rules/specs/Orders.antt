@@ -1,22 +1,16 @@
 -- What each built operation does to the machine, once the checks of its class have passed; a, b and c are the addresses of the order
 -- as it is done. Assumes nothing.
-use Rattle.std.specs.Prelude.{ℕ, zero, suc, ◌+◌, ◌-◌, ◌*◌, ◌/◌, ◌%◌, max, List, [], ◌∷◌, ◌++◌, Bool, true, false, eqb, leb, ltb, length}
+use Rattle.std.specs.Prelude.{ℕ, zero, suc, ◌+◌, ◌-◌, ◌*◌, ◌/◌, ◌%◌, max, List, [], ◌∷◌, ◌++◌, Bool, true, false, eqb, leb, ltb, length, Ok, Err}
 use Rattle.rules.specs.Words.{pick, both, sign_in, digits_in, exponent_in, worth_of, address_in, with_address, with_digits}
 use Rattle.rules.specs.Arithmetic.{add_of, sub_of, mpy_of, div_of, ngmpy_of, sqrt_of, abs_of, loss_in}
 use Rattle.rules.specs.Drum.{word_at, store}
 use Rattle.rules.specs.Cards.{data_card}
 use Rattle.rules.specs.Decks.{data_from, cards_stored, judged_from}
 use Rattle.rules.specs.Machine.{Machine, Inputs, Answer, counting, count_a, count_b, count_c, clear_box, numbered, read_to, tracing_set, is_traced, with_state, stored, sending, going_to, onward, done, undone, stops}
-use Rattle.rules.specs.declared.Cell.{Cell}
+use Rattle.rules.specs.Answers.{Cell, Judged, Outcome, Reckoned}
 use Rattle.rules.specs.declared.State.{State}
-use Rattle.rules.specs.declared.Reckoned.{Reckoned}
-use Rattle.rules.specs.declared.Reckoned.TheVariants.{Result, Refused}
 use Rattle.rules.specs.declared.Refusal.TheVariants.{BadAddress, NoRoom}
-use Rattle.rules.specs.declared.Judged.{Judged}
-use Rattle.rules.specs.declared.Judged.TheVariants.{Fits, Fails}
 use Rattle.rules.specs.declared.Stop.TheVariants.{Unconditional, Conditional, Lost}
-use Rattle.rules.specs.declared.Outcome.{Outcome}
-use Rattle.rules.specs.declared.Outcome.TheVariants.{GoesOn, Stops}
 use Rattle.rules.specs.declared.Operation.{Operation}
 use Rattle.rules.specs.declared.Operation.TheVariants.{Reckon, Move, Go, Loop, Change, Read, Pch, Trace, MoveBlock, Compare}
 use Rattle.rules.specs.declared.Reckoning.{Reckoning}
@@ -29,6 +23,7 @@ use Rattle.rules.specs.declared.Changing.{Changing}
 use Rattle.rules.specs.declared.Changing.TheVariants.{SetTo, AddTo, SubFrom}
 use Rattle.rules.specs.declared.Tracing.{Tracing}
 use Rattle.rules.specs.declared.Tracing.TheVariants.{StartTr, StopTr, StTrEras}
+use Rattle.rules.specs.declared.Done.TheVariants.{GoesOn, Stops}
 
 -- ---- results: stored at C and at 000
 
@@ -64,13 +59,13 @@ stops_by_loss i k x y = stops_at i (loss_by k x y (reckoned_by k x y))
 
 -- with the result w the run stops and shows it, or it goes on
 abbrev pub resulted : Bool → ℕ → Outcome
-resulted true w = Stops Lost w
-resulted false w = GoesOn
+resulted true w = Ok (Stops Lost w)
+resulted false w = Ok GoesOn
 
 -- either way the result is stored, and the next order follows
 abbrev pub reckoned : Bool → Machine → ℕ → Reckoned → Answer
-reckoned t m c (Result w) = stops (resulted t w) (onward (result_at m c w))
-reckoned t m c (Refused r) = undone r m
+reckoned t m c (Ok w) = stops (resulted t w) (onward (result_at m c w))
+reckoned t m c (Err r) = undone r m
 
 abbrev pub reckoned_at : Inputs → Machine → Reckoning → ℕ → ℕ → ℕ → Answer
 reckoned_at i m k x y c = reckoned (stops_by_loss i k x y) m c (reckoned_by k x y)
@@ -79,7 +74,7 @@ reckoned_at i m k x y c = reckoned (stops_by_loss i k x y) m c (reckoned_by k x 
 
 -- on STOP it stops and shows B's word; either way the next order is at C
 abbrev pub cond_stopped : Bool → Machine → ℕ → ℕ → Answer
-cond_stopped true m b c = stops (Stops Conditional (word_at m.cells b)) (going_to m c)
+cond_stopped true m b c = stops (Ok (Stops Conditional (word_at m.cells b))) (going_to m c)
 cond_stopped false m b c = done (going_to m c)
 
 -- minus, and not ten zeros
@@ -97,7 +92,7 @@ abbrev pub linked : Machine → ℕ → ℕ → Machine
 linked m b c = going_to (stored m c (with_address OfC (digits_in (word_at m.cells c)) b)) c
 
 unfoldable pub gone : Inputs → Machine → Going → ℕ → ℕ → Answer
-gone i m UncStop b c = stops (Stops Unconditional (word_at m.cells b)) m
+gone i m UncStop b c = stops (Ok (Stops Unconditional (word_at m.cells b))) m
 gone i m CondStop b c = cond_stopped i.switches.stop m b c
 gone i m TrSgn b c = done (sign_transferred m b c)
 gone i m TrExp b c = done (exponent_transferred m b c)
@@ -138,7 +133,7 @@ new_address AddTo y c = (y + c) % 1000
 new_address SubFrom y c = (y + 1000 - c) % 1000
 
 abbrev pub wrapped : Changing → Address → ℕ → ℕ → Reckoned
-wrapped k x w c = Result (with_address x w (new_address k (address_in x w) c))
+wrapped k x w c = Ok (with_address x w (new_address k (address_in x w) c))
 
 -- Sums that carry: C, shifted to where that address stands, is added to all ten digits or taken from them. Where they cannot hold that, the
 -- order is refused; the sign stays. SET is that of the base.
@@ -146,10 +141,10 @@ abbrev pub shifted : Address → ℕ → ℕ
 shifted x c = c * worth_of x
 
 abbrev pub raised_by : ℕ → ℕ → Reckoned
-raised_by w n = pick (leb (digits_in w + n) 9999999999) (Result (with_digits w (digits_in w + n))) (Refused BadAddress)
+raised_by w n = pick (leb (digits_in w + n) 9999999999) (Ok (with_digits w (digits_in w + n))) (Err BadAddress)
 
 abbrev pub lowered_by : ℕ → ℕ → Reckoned
-lowered_by w n = pick (leb n (digits_in w)) (Result (with_digits w (digits_in w - n))) (Refused BadAddress)
+lowered_by w n = pick (leb n (digits_in w)) (Ok (with_digits w (digits_in w - n))) (Err BadAddress)
 
 abbrev pub carried : Changing → Address → ℕ → ℕ → Reckoned
 carried SetTo x w c = wrapped SetTo x w c
@@ -162,8 +157,8 @@ changed_word true k x w c = carried k x w c
 changed_word false k x w c = wrapped k x w c
 
 abbrev pub changed : Machine → ℕ → Reckoned → Answer
-changed m b (Result w) = done (onward (stored m b w))
-changed m b (Refused r) = undone r m
+changed m b (Ok w) = done (onward (stored m b w))
+changed m b (Err r) = undone r m
 
 abbrev pub changed_at : Inputs → Machine → Changing → Address → ℕ → ℕ → Answer
 changed_at i m k x b c = changed m b (changed_word i.requests.sums_carry k x (word_at m.cells b) c)
@@ -223,7 +218,7 @@ block_moved m n b c = onward (record { cells = cells_moved m.cells n b c; sent =
 -- ---- READ: its cards are judged to the last before the first is stored
 
 abbrev pub read : Inputs → Machine → Judged → Answer
-read i m (Fits end) =
+read i m (Ok end) =
     done
     (onward
     (record {
@@ -231,7 +226,7 @@ read i m (Fits end) =
       sent = m.sent;
       state = read_to m.state end;
     }))
-read i m (Fails r) = undone r m
+read i m (Err r) = undone r m
 
 -- ---- tracing: turned on or off in traced mode, else nothing
 

@@ -1,6 +1,6 @@
 -- One order from its cell on, with the loop box and the trace card; a run of orders up to a budget; and a whole call of run with its
 -- entry checks. Assumes nothing.
-use Rattle.std.specs.Prelude.{ℕ, zero, suc, ◌+◌, ◌*◌, ◌≡◌, ◌⊎◌, List, [], ◌∷◌, ◌++◌, Bool, true, false, eqb, leb, ltb, length, drop}
+use Rattle.std.specs.Prelude.{ℕ, zero, suc, ◌+◌, ◌*◌, ◌≡◌, ◌⊎◌, List, [], ◌∷◌, ◌++◌, Bool, true, false, eqb, leb, ltb, length, drop, Some, None, Ok, Err}
 use Rattle.rules.specs.Words.{pick, both, sign_in, first_digit, a_in, b_in, c_in, worth_of}
 use Rattle.rules.specs.Numbers.{completed, may_go_on}
 use Rattle.rules.specs.Drum.{view, cell_at, word_at, is_owned, marks_of, overlay, drum_fits}
@@ -9,25 +9,15 @@ use Rattle.rules.specs.Decks.{deck_of, may_stand}
 use Rattle.rules.specs.Codes.{codes, lookup, code_in, pch_code, noop_code, checked}
 use Rattle.rules.specs.Machine.{Machine, Requests, present, Inputs, Answer, count_a, count_b, count_c, numbered, is_traced, is_tracing, with_state, sending, undone}
 use Rattle.rules.specs.Orders.{performed}
+use Rattle.rules.specs.Answers.{Built, Cell, Checked, Deck, Ending, Outcome}
 use Rattle.rules.specs.declared.Address.TheVariants.{OfA, OfB, OfC}
-use Rattle.rules.specs.declared.Cell.{Cell}
-use Rattle.rules.specs.declared.Cell.TheVariants.{Foreign, Owned}
 use Rattle.rules.specs.declared.State.{State}
 use Rattle.rules.specs.declared.Switches.{Switches}
 use Rattle.rules.specs.declared.Operation.{Operation}
-use Rattle.rules.specs.declared.Checked.{Checked}
-use Rattle.rules.specs.declared.Checked.TheVariants.{Passes, Refuses}
-use Rattle.rules.specs.declared.Built.{Built}
-use Rattle.rules.specs.declared.Built.TheVariants.{As, No}
 use Rattle.rules.specs.declared.Refusal.TheVariants.{BadAddress, Unmarked, NoRoom, NotBuilt}
-use Rattle.rules.specs.declared.Outcome.{Outcome}
-use Rattle.rules.specs.declared.Outcome.TheVariants.{GoesOn}
-use Rattle.rules.specs.declared.Deck.{Deck}
-use Rattle.rules.specs.declared.Deck.TheVariants.{Good, Faulty}
 use Rattle.rules.specs.declared.Bar.{Bar}
 use Rattle.rules.specs.declared.Bar.TheVariants.{BadDrum, BadDeck, BadState}
-use Rattle.rules.specs.declared.Ending.{Ending}
-use Rattle.rules.specs.declared.Ending.TheVariants.{Ran, NotRun}
+use Rattle.rules.specs.declared.Done.TheVariants.{GoesOn}
 
 -- ---- the order as done: of a minus order each address with its count of the loop box; the minus stays
 
@@ -51,12 +41,12 @@ as_done s w = pick (is_minus w) (w + box_word s) w
 -- ---- the order itself: built or not, then the checks of its class, then what it does
 
 abbrev pub allowed : Inputs → Machine → Operation → ℕ → ℕ → ℕ → Checked → Answer
-allowed i m o a b c Passes = performed i m o a b c
-allowed i m o a b c (Refuses r) = undone r m
+allowed i m o a b c (Ok _) = performed i m o a b c
+allowed i m o a b c (Err r) = undone r m
 
 abbrev pub obeyed_as : Inputs → Machine → ℕ → ℕ → ℕ → Built → Answer
-obeyed_as i m a b c No = undone NotBuilt m
-obeyed_as i m a b c (As o k) = allowed i m o a b c (checked k m.cells a b c)
+obeyed_as i m a b c None = undone NotBuilt m
+obeyed_as i m a b c (Some (o, k)) = allowed i m o a b c (checked k m.cells a b c)
 
 -- in traced mode PCH is NOOP, checks and all
 abbrev pub code_done : Bool → ℕ → ℕ
@@ -93,8 +83,8 @@ traced i m w w' =
 -- ---- one order: its location, its cell, its sums, its trace card, itself
 
 unfoldable pub fetched : Inputs → Machine → Cell → Answer
-fetched i m Foreign = undone Unmarked m
-fetched i m (Owned w) = pick (order_fits m.state w) (traced i m w (as_done m.state w)) (undone BadAddress m)
+fetched i m None = undone Unmarked m
+fetched i m (Some w) = pick (order_fits m.state w) (traced i m w (as_done m.state w)) (undone BadAddress m)
 
 unfoldable pub step : Inputs → Machine → Answer
 step i m =
@@ -106,7 +96,7 @@ step i m =
 abbrev pub Left : Machine → Machine → Type 0
 Left m u =
     (u ≡ m)
-    ⊎ ((w : ℕ) × (cell_at m.cells m.state.location ≡ Owned w) × (u ≡ trace_sent m w (as_done m.state w)))
+    ⊎ ((w : ℕ) × (cell_at m.cells m.state.location ≡ Some w) × (u ≡ trace_sent m w (as_done m.state w)))
 
 -- ---- a run: at most so many orders, n having been completed
 
@@ -116,7 +106,7 @@ pub record Course : Type 0 where
   pub count : ℕ
 
 unfoldable pub run_from : Inputs → ℕ → Machine → ℕ → Course
-run_from i zero m n = record { outcome = GoesOn; machine = m; count = n }
+run_from i zero m n = record { outcome = Ok GoesOn; machine = m; count = n }
 run_from i (suc k) m n =
     let x = step i m in
     elim (may_go_on x.outcome) [
@@ -151,12 +141,12 @@ over sent out = sent ++ drop (length sent) out
 -- nothing is changed
 abbrev pub not_run : RunCall → Bar → RunResult
 not_run c b =
-    record { ending = NotRun b; count = 0; written = 0; state = c.state; drum = c.drum; marks = c.marks; out = c.out }
+    record { ending = Err b; count = 0; written = 0; state = c.state; drum = c.drum; marks = c.marks; out = c.out }
 
 unfoldable pub ran_as : RunCall → Course → RunResult
 ran_as c x =
     record {
-      ending = Ran x.outcome;
+      ending = Ok x.outcome;
       count = x.count;
       written = length x.machine.sent;
       state = x.machine.state;
@@ -192,9 +182,9 @@ state_fits v deck behind s budget =
     (both (is_owned (cell_at v 0)) (may_stand deck behind s.reader)))))))))
 
 unfoldable pub ran_on : Requests → RunCall → Deck → RunResult
-ran_on q c (Faulty f) = not_run c (BadDeck f)
-ran_on q c (Good behind order problem) =
-    pick (state_fits (view c.drum c.marks) c.deck behind c.state c.budget)
+ran_on q c (Err f) = not_run c (BadDeck f)
+ran_on q c (Ok start) =
+    pick (state_fits (view c.drum c.marks) c.deck start.behind c.state c.budget)
     (ran_as c (run_from (inputs_by q c) c.budget (begun c) 0))
     (not_run c BadState)
 

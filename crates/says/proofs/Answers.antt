@@ -1,4 +1,5 @@
 -- What is written for an answer, by what the card's writers say. Assumes nothing.
+use Rattle.std.proofs.Common.{Err, Ok}
 use Prim.Native.Nat.{ℕ, zero, suc, ◌≤◌, min}
 use mathlib.Core.Path.{◌≡◌, refl, sym, ap, ◌∙◌}
 use mathlib.Core.List.{List, [], ◌∷◌}
@@ -7,17 +8,14 @@ use native.Mathlib.Omega.{arith}
 use borrow.Author.Tests.{le-leb}
 use lib.ListN.{length, take, length-append, length-take}
 use Rattle.rules.specs.Words.{pick}
-use Rattle.rules.specs.Numbers.{outcome_number, outcome_shown, bar_number, bar_place, making_number, making_written}
+use Rattle.rules.specs.Numbers.{outcome_number, outcome_shown, bar_number, bar_place, making_number}
 use Rattle.rules.specs.Cards.{stop_card, refusal_line}
 use Rattle.rules.specs.Running.{over}
 use Rattle.rules.specs.Sheet.{closing, make_line}
+use Rattle.rules.specs.Answers.{Ending, Making, Outcome}
 use Rattle.rules.specs.declared.State.{State}
-use Rattle.rules.specs.declared.Outcome.{Outcome}
 use Rattle.rules.specs.declared.Bar.{Bar}
-use Rattle.rules.specs.declared.Ending.{Ending}
-use Rattle.rules.specs.declared.Ending.TheVariants.{Ran, NotRun}
-use Rattle.rules.specs.declared.Making.{Making}
-use Rattle.rules.specs.declared.Making.TheVariants.{Made, UnfitDrum, UnfitNumber, Full}
+use Rattle.rules.specs.declared.Unmade.{Unmade}
 use Rattle.rules.proofs.Fields.{length_stop}
 use Rattle.card.specs.Written.{stop_may, fits, Wrote, WroteLine}
 use Rattle.says.specs.Counts.{IsPrefixLen}
@@ -43,12 +41,12 @@ pub line_closed : (line before : List ℕ) (said : ℕ) (after : List ℕ) → W
 line_closed line before said after w = record { count_is = w.answer; bytes = w.bytes }
 
 module _ (e : Ending) (s : State) (count : ℕ) (before after : List ℕ) where
-  pub line_told : (b : Bar) (number place said : ℕ) → e ≡ NotRun b → number ≡ bar_number b → place ≡ bar_place b
+  pub line_told : (b : Bar) (number place said : ℕ) → e ≡ Err b → number ≡ bar_number b → place ≡ bar_place b
       → Closed true (refusal_line number place) before said after → Closed (may_close e s count) (closing e s count) before said after
   line_told b number place said p q r w = rw (p, ← q, ← r) w
 
   -- 24 bytes where the Z card was written, and else none
-  pub stop_told : (o : Outcome) (number shown : ℕ) (told : Bool) (said : ℕ) → e ≡ Ran o → number ≡ outcome_number o → shown ≡ outcome_shown o
+  pub stop_told : (o : Outcome) (number shown : ℕ) (told : Bool) (said : ℕ) → e ≡ Ok o → number ≡ outcome_number o → shown ≡ outcome_shown o
       → said ≡ pick told 24 0
       → Wrote (stop_may number s.location count shown) (stop_card number s.location count shown) before told after
       → Closed (may_close e s count) (closing e s count) before said after
@@ -65,22 +63,10 @@ module _ (e : Ending) (s : State) (count : ℕ) (before after : List ℕ) where
 
 -- ---- a call of make
 
-made_line : (m : Making) (out : List ℕ) → making_number m ≡ 0 → make_line m out ≡ take (making_written m) out
-made_line (Made n) out e = refl
-made_line UnfitDrum out e = let z : ⊥ = omega arith in absurd z
-made_line UnfitNumber out e = let z : ⊥ = omega arith in absurd z
-made_line Full out e = let z : ⊥ = omega arith in absurd z
-
-refused_line : (m : Making) (out : List ℕ) → (making_number m ≡ 0 → ⊥) → make_line m out ≡ refusal_line (making_number m) 0
-refused_line (Made n) out h = absurd (h refl)
-refused_line UnfitDrum out h = refl
-refused_line UnfitNumber out h = refl
-refused_line Full out h = refl
-
 -- the line of a refused call is written
-pub refused_told : (m : Making) (number said : ℕ) {before after : List ℕ} → number ≡ making_number m → (number ≡ 0 → ⊥)
+pub refused_told : (m : Making) (why : Unmade) (number said : ℕ) {before after : List ℕ} → m ≡ Err why → number ≡ making_number m
     → Closed true (refusal_line number 0) before said after → Closed true (make_line m before) before said after
-refused_told m number said {before} e h w = rw (refused_line m before (λ z. h (e ∙ z)), ← e) w
+refused_told m why number said e q w = rw (e, ← (q ∙ ap making_number e)) w
 
 -- a deck stands in the output already, as far as that goes
 over_itself : (n : ℕ) (out : List ℕ) → over (take n out) out ≡ out
@@ -89,13 +75,11 @@ over_itself zero out = refl
 over_itself (suc n) [] = refl
 over_itself (suc n) (x ∷ out) = ap (λ (l : List ℕ). x ∷ l) (over_itself n out)
 
-pub made_told : (m : Making) (number n said : ℕ) (out : List ℕ) → number ≡ making_number m → number ≡ 0 → n ≡ making_written m
-    → said ≡ min n (length out) → Closed true (make_line m out) out said out
-made_told m number n said out e z q r =
+pub made_told : (m : Making) (n said : ℕ) (out : List ℕ) → m ≡ Ok n → said ≡ min n (length out) → Closed true (make_line m out) out said out
+made_told m n said out e r =
     let l = length-take n out in
     let h : length (take n out) ≤ length out = omega arith in
-    rw (made_line m out (sym e ∙ z), ← q)
-    (record {
+    rw e (record {
       count_is = r ∙ sym l ∙ sym (ap (λ (t : Bool). pick t (length (take n out)) 0) (le-leb (length (take n out)) (length out) h));
       bytes = sym (ap (λ (t : Bool). pick t (over (take n out) out) out) (le-leb (length (take n out)) (length out) h) ∙ over_itself n out);
     })

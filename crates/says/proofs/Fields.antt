@@ -1,4 +1,5 @@
 -- The closing of a run can always be written: what check 12 and check 10 let in stays within its fields. Assumes nothing.
+use Rattle.std.proofs.Common.{Err, Ok}
 use Prim.Native.Nat.{ℕ, ◌≤◌}
 use mathlib.Core.Path.{◌≡◌, refl}
 use mathlib.Core.Bool.{true}
@@ -8,12 +9,12 @@ use borrow.Author.Tests.{le-leb}
 use Rattle.rules.specs.Words.{both, is_word}
 use Rattle.rules.specs.Numbers.{stop_number, refusal_number, outcome_number, outcome_shown}
 use Rattle.rules.specs.Running.{RunResult, begun, inputs, ran_as}
+use Rattle.rules.specs.Answers.{Outcome}
 use Rattle.rules.specs.declared.Stop.{Stop}
 use Rattle.rules.specs.declared.Stop.TheVariants.{Unconditional, Conditional, Lost}
 use Rattle.rules.specs.declared.Refusal.{Refusal}
 use Rattle.rules.specs.declared.Refusal.TheVariants.{BadAddress, Unmarked, NoRoom, NotBuilt, NotNumber, ZeroDivisor, NegativeRoot, OutOfRange, Unfit, NoCard}
-use Rattle.rules.specs.declared.Outcome.{Outcome}
-use Rattle.rules.specs.declared.Outcome.TheVariants.{GoesOn, Stops, Undone}
+use Rattle.rules.specs.declared.Done.TheVariants.{GoesOn, Stops}
 use Rattle.rules.proofs.RoomRuns.{count_within}
 use Rattle.rules.proofs.Entered.{course, of_run_lem, budget_small, left_sound, shown_word}
 use Rattle.says.specs.Told.{may_close}
@@ -39,9 +40,9 @@ refusal_small Unfit = omega arith
 refusal_small NoCard = omega arith
 
 pub outcome_small : (o : Outcome) → outcome_number o ≤ 99
-outcome_small (Stops k w) = stop_small k
-outcome_small GoesOn = omega arith
-outcome_small (Undone r) = refusal_small r
+outcome_small (Ok (Stops k w)) = stop_small k
+outcome_small (Ok GoesOn) = omega arith
+outcome_small (Err r) = refusal_small r
 
 -- a Z card of these numbers, with any count that has six digits
 pub stop_closes : (number location count shown : ℕ) → number ≤ 99 → location ≤ 1000 → count ≤ 999999 → shown ≤ 19999999999

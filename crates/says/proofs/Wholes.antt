@@ -1,4 +1,5 @@
 -- A closing that may be written, in 64 bytes, and what is told of a call of make: all of it is at the start of the output. Assumes nothing.
+use Rattle.std.proofs.Common.{Err, Ok}
 use Prim.Native.Nat.{ℕ, ◌≤◌}
 use mathlib.Core.Path.{◌≡◌, ap₂}
 use mathlib.Core.List.{List}
@@ -12,11 +13,9 @@ use Rattle.rules.specs.Cards.{refusal_line}
 use Rattle.rules.specs.Numbers.{outcome_number, outcome_shown, bar_number, bar_place, making_number}
 use Rattle.rules.specs.Running.{over}
 use Rattle.rules.specs.Sheet.{closing, make_line}
+use Rattle.rules.specs.Answers.{Ending, Making}
 use Rattle.rules.specs.declared.State.{State}
-use Rattle.rules.specs.declared.Ending.{Ending}
-use Rattle.rules.specs.declared.Ending.TheVariants.{Ran, NotRun}
-use Rattle.rules.specs.declared.Making.{Making}
-use Rattle.rules.specs.declared.Making.TheVariants.{Made, UnfitDrum, UnfitNumber, Full}
+use Rattle.rules.specs.declared.Unmade.TheVariants.{Full, UnfitDrum, UnfitNumber}
 use Rattle.rules.proofs.Fields.{length_stop, width_small, length_line}
 use Rattle.rules.proofs.Tests.{false_true}
 use Rattle.card.specs.Written.{fits}
@@ -27,8 +26,8 @@ line_short : (number place : ℕ) → length (refusal_line number place) ≤ 64
 line_short number place = omega (arith, length_line number place, width_small 20 number, width_small 20 place)
 
 closing_short : (e : Ending) (s : State) (count : ℕ) → length (closing e s count) ≤ 64
-closing_short (Ran o) s count = omega (arith, length_stop (outcome_number o) s.location count (outcome_shown o))
-closing_short (NotRun b) s count = line_short (bar_number b) (bar_place b)
+closing_short (Ok o) s count = omega (arith, length_stop (outcome_number o) s.location count (outcome_shown o))
+closing_short (Err b) s count = line_short (bar_number b) (bar_place b)
 
 by_fits : (t : Bool) (answer before after : List ℕ) (said : ℕ) → t ≡ true → said ≡ pick t (length answer) 0 → after ≡ pick t (over answer before) before
     → take said after ≡ answer
@@ -45,10 +44,10 @@ closes_whole e s count before after said may room w =
 
 -- a deck of make is no longer than the output that it stands in
 making_short : (m : Making) (out : List ℕ) → 64 ≤ length out → length (make_line m out) ≤ length out
-making_short (Made n) out h = omega (arith, length-take n out)
-making_short UnfitDrum out h = omega (arith, line_short (making_number UnfitDrum) 0)
-making_short UnfitNumber out h = omega (arith, line_short (making_number UnfitNumber) 0)
-making_short Full out h = omega (arith, line_short (making_number Full) 0)
+making_short (Ok n) out h = omega (arith, length-take n out)
+making_short (Err UnfitDrum) out h = omega (arith, line_short (making_number (Err UnfitDrum)) 0)
+making_short (Err UnfitNumber) out h = omega (arith, line_short (making_number (Err UnfitNumber)) 0)
+making_short (Err Full) out h = omega (arith, line_short (making_number (Err Full)) 0)
 
 pub making_whole : (m : Making) (before after : List ℕ) (said : ℕ) → 64 ≤ length before
     → Closed true (make_line m before) before said after → take said after ≡ make_line m before

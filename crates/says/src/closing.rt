@@ -6,8 +6,8 @@ ghost use Rattle.rules.specs.Cards.{refusal_line};
 ghost use Rattle.rules.specs.Sheet.{closing, make_line};
 ghost use Rattle.says.specs.Told.{may_close, Closed};
 
-use octets::lesser;
 use rules::{Ending, Making, State};
+use stops::Told;
 
 // The line of a call that was refused: its number, a space and its place, over the start of the output. It answers how many bytes that is.
 fn write_refused(out: &mut [u8], number: u64, place: u64) -> usize
@@ -23,16 +23,13 @@ pub fn write_closing(out: &mut [u8], ending: Ending, state: State, count: u64) -
     ensures within { IsPrefixLen result out.new }
 {
     match ending {
-        Ending::NotRun(b) => {
-            let number = stops::bar_number(b);
-            let place = stops::bar_place(b);
-            write_refused(out, number, place)
+        Err(bar) => {
+            let told = Told::from(bar);
+            write_refused(out, told.number, told.place)
         }
-        Ending::Ran(o) => {
-            let number = stops::outcome_number(o);
-            let shown = stops::outcome_shown(o);
-            let location = state.location;
-            if card::write_stop(out, number, location, count, shown) {
+        Ok(outcome) => {
+            let told = Told::from(outcome);
+            if card::write_stop(out, told.number, state.location, count, told.shown) {
                 24
             } else {
                 0
@@ -47,9 +44,8 @@ pub fn write_making(out: &mut [u8], making: Making) -> usize
     ensures closed { Closed true (make_line making out.old) out.old result out.new }
     ensures within { IsPrefixLen result out.new }
 {
-    let number = stops::making_number(making);
-    if number != 0 {
-        return write_refused(out, number, 0);
+    match making {
+        Ok(n) => n.min(out.len()),
+        Err(_) => write_refused(out, Told::from(making).number, 0),
     }
-    lesser(stops::making_written(making), out.len())
 }

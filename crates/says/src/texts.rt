@@ -82,12 +82,17 @@ pub fn help(texts: &impl Print) {
     );
 }
 
+// A word of the call, or a file by its name, and what is to be said of it.
+fn say_of(texts: &impl Print, word: &[u8], what: &[u8]) {
+    say(texts, b"l1: ");
+    say(texts, word);
+    say(texts, what);
+}
+
 // That the first word of a call of so many is no command, and what can be called.
 pub fn unknown(texts: &impl Print, word: &[u8], count: usize) {
     if 1 < count {
-        say(texts, b"l1: ");
-        say(texts, word);
-        say(texts, b": no such command\n");
+        say_of(texts, word, b": no such command\n");
     }
     help(texts);
 }
@@ -106,7 +111,6 @@ pub fn usage(texts: &impl Print, command: Command) {
         Command::List => say(texts, b"usage: l1 list FILE\n"),
         Command::Cells => say(texts, b"usage: l1 cells MACHINE\n"),
         Command::Make => say(texts, b"usage: l1 make MACHINE first=N [problem=N]\n"),
-        Command::Unknown => help(texts),
     }
 }
 
@@ -119,15 +123,12 @@ pub fn failed(texts: &impl Print, what: &[u8], why: &io::Error) {
     say(texts, b"\n");
 }
 
-// A word of the call, and what is wrong with it.
+// A word of the call, and what is wrong with it. The word's bytes need not be text, so no Display writes them.
 pub fn refused(texts: &impl Print, word: &[u8], trouble: Trouble) {
-    say(texts, b"l1: ");
-    say(texts, word);
     match trouble {
-        Trouble::Fine => say(texts, b"\n"),
-        Trouble::Stray => say(texts, b": no word for this command\n"),
-        Trouble::Twice => say(texts, b": given twice\n"),
-        Trouble::NotNumber => say(texts, b": no decimal number\n"),
+        Trouble::Stray => say_of(texts, word, b": no word for this command\n"),
+        Trouble::Twice => say_of(texts, word, b": given twice\n"),
+        Trouble::NotNumber => say_of(texts, word, b": no decimal number\n"),
     }
 }
 
@@ -149,35 +150,25 @@ pub fn no_first(texts: &impl Print) {
 
 // That a machine file is as it was.
 pub fn kept(texts: &impl Print, path: &[u8]) {
-    say(texts, b"l1: ");
-    say(texts, path);
-    say(texts, b": not replaced\n");
+    say_of(texts, path, b": not replaced\n");
 }
 
 // That a machine file is a new one, though the Z card was not written.
 pub fn replaced(texts: &impl Print, path: &[u8]) {
-    say(texts, b"l1: ");
-    say(texts, path);
-    say(texts, b": replaced, but its Z card is not written\n");
+    say_of(texts, path, b": replaced, but its Z card is not written\n");
 }
 
 // That a text of cells is too long to be read.
 pub fn too_long(texts: &impl Print, path: &[u8]) {
-    say(texts, b"l1: ");
-    say(texts, path);
-    say(texts, b": more than 262144 bytes\n");
+    say_of(texts, path, b": more than 262144 bytes\n");
 }
 
 // That a text of cells is none.
 pub fn not_cells(texts: &impl Print, path: &[u8]) {
-    say(texts, b"l1: ");
-    say(texts, path);
-    say(texts, b": not 1000 decimal numbers below 2^64\n");
+    say_of(texts, path, b": not 1000 decimal numbers below 2^64\n");
 }
 
 // That a machine file is a link.
 pub fn link(texts: &impl Print, path: &[u8]) {
-    say(texts, b"l1: ");
-    say(texts, path);
-    say(texts, b": a link; name the machine file itself\n");
+    say_of(texts, path, b": a link; name the machine file itself\n");
 }

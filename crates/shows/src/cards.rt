@@ -1,5 +1,5 @@
 // The cards of a file as lines that people read, part after part.
-ghost use Rattle.std.specs.Prelude.{◌≡◌, true, ◌-◌, ◌≤◌, length, drop};
+ghost use Rattle.std.specs.Prelude.{◌≡◌, ◌-◌, ◌≤◌, length, drop, IfSome};
 ghost use Rattle.std.proofs.Math.Seq.{paste};
 ghost use Rattle.list.specs.Listing.{last_line};
 ghost use Rattle.shows.specs.Parts.{may_be_cut, listed_upto};
@@ -11,39 +11,21 @@ use std::io::{Print, Read};
 use std::rt::Files;
 
 // How far a part of a file is listed: how many bytes its cards take, and what was seen up to there.
-#[derive(Clone, Copy)]
+#[derive(Clone, Copy, Debug, PartialEq, Eq)]
 pub struct Passed {
     pub taken: usize,
     pub seen: Seen,
-}
-
-// The same, and whether all lines were sent.
-#[derive(Clone, Copy)]
-pub struct Listed {
-    pub sent: bool,
-    pub passed: Passed,
 }
 
 // Whether so many bytes may be a card cut short.
 fn may_be_cut(left: usize, last: bool) -> bool
     ensures { result ≡ may_be_cut left last }
 {
-    if last {
-        return false;
-    }
-    left < 77
+    !last && left < 77
 }
 
-// A part that is listed up to a place.
-fn upto(sent: bool, taken: usize, seen: Seen) -> Listed
-    ensures { (result.sent ≡ sent) × (result.passed ≡ record { taken = taken; seen = seen }) }
-{
-    let passed = Passed { taken, seen };
-    Listed { sent, passed }
-}
-
-// The lines of the cards at the start of a part, behind those that were seen. Where it is not the last of its file, a card that it may have
-// cut short is left.
+// The lines of the cards at the start of a part, behind those that were seen; nothing where they could not be sent. Where it is not the last
+// of its file, a card that it may have cut short is left. It goes by the sizes of cards, so it is no `for`.
 fn list_cards(
     rt: &impl Print,
     texts: &impl Print,
@@ -51,38 +33,37 @@ fn list_cards(
     part: &[u8],
     last: bool,
     before: Seen,
-) -> Listed
-    ensures within { result.passed.taken ≤ length part.now }
-    ensures listed { result.sent ≡ true → result.passed ≡ listed_upto (length part.now) part.now last before 0 }
+) -> Option<Passed>
+    ensures within { IfSome result (λ passed. passed.taken ≤ length part.now) }
+    ensures listed { IfSome result (λ passed. passed ≡ listed_upto (length part.now) part.now last before 0) }
 {
     let mut at: usize = 0;
     let mut seen = before;
     while at < part.len() {
         let left = part.len() - at;
         if may_be_cut(left, last) {
-            return upto(true, at, seen);
+            return Some(Passed { taken: at, seen });
         }
         let rest = &part[at..];
         if is_second(seen, rest) {
-            return upto(true, at, seen);
+            return Some(Passed { taken: at, seen });
         }
         let kind = rest[0];
         let x = list::write_lines(lines, rest);
-        let n = x.written;
         let size = x.taken;
         if size == 0 {
-            return upto(true, at, seen);
+            return Some(Passed { taken: at, seen });
         }
         if left < size {
-            return upto(true, at, seen);
+            return Some(Passed { taken: at, seen });
         }
-        if !send_first(rt, texts, lines, n) {
-            return upto(false, at, seen);
+        if !send_first(rt, texts, lines, x.written) {
+            return None;
         }
         at += size;
         seen = with_kind(seen, kind);
     }
-    upto(true, at, seen)
+    Some(Passed { taken: at, seen })
 }
 
 // The bytes of the room from a place up to another go to its start.
@@ -90,11 +71,8 @@ fn move_down(room: &mut [u8], from: usize, to: usize)
     requires { (from ≤ to) × (to ≤ length room.old) }
     ensures { room.new ≡ paste room.old 0 (drop from room.old) (to - from) }
 {
-    let n = to - from;
-    let mut i: usize = 0;
-    while i < n {
+    for i in 0..to - from {
         room[i] = room[from + i];
-        i += 1;
     }
 }
 
@@ -115,35 +93,20 @@ fn send_last(
 // The last line of a listing that ends at a place, where the rest of the file is these bytes.
 fn end_at(rt: &impl Print, texts: &impl Print, seen: Seen, place: usize, rest: &[u8]) {
     let line = last_line(seen, place, rest);
-    let text = line.bytes;
-    let n = line.size;
-    send_last(rt, texts, &text[..n], seen, place, rest);
+    send_last(rt, texts, line.text(), seen, place, rest);
 }
 
-// How a listing stands: whether it goes on, how many bytes at the start of the room are yet to be listed, their place in the file, and what
-// was seen before them.
-#[derive(Clone, Copy)]
+// How a listing stands that goes on: how many bytes at the start of the room are yet to be listed, their place in the file, and what was seen
+// before them.
+#[derive(Clone, Copy, Debug, PartialEq, Eq)]
 pub struct Window {
-    pub open: bool,
     pub kept: usize,
     pub place: usize,
     pub seen: Seen,
 }
 
-// A listing that has ended.
-fn closed(seen: Seen) -> Window
-    ensures { result.kept ≡ 0 }
-{
-    Window {
-        open: false,
-        kept: 0,
-        place: 0,
-        seen,
-    }
-}
-
 // One room of the file: it is filled, its cards are listed, and a card that it cuts short is kept. Where no card begins, and at the end of the
-// file, the last line is sent.
+// file, the last line is sent, and the listing has ended, as it has where the file cannot be read or the lines cannot be sent.
 fn list_some<F: Read>(
     rt: &impl Print,
     texts: &impl Print,
@@ -152,46 +115,30 @@ fn list_some<F: Read>(
     path: &[u8],
     file: &mut F,
     window: Window,
-) -> Window
+) -> Option<Window>
     requires { (length room.old ≡ 65536) × (window.kept ≤ 65536) }
-    ensures { result.kept ≤ 65536 }
+    ensures { IfSome result (λ next. next.kept ≤ 65536) }
 {
-    let kept = window.kept;
-    let place = window.place;
-    let before = window.seen;
+    let Window { kept, place, seen } = window;
     if 9_000_000_000_000_000_000 < place {
-        return closed(before);
+        return None;
     }
-    let x = fill(file, texts, path, &mut room[kept..]);
-    let got = x.count;
-    if !x.good {
-        return closed(before);
-    }
-    let n = kept + got;
-    let y = list_cards(rt, texts, lines, &room[0..n], n < 65536, before);
-    let passed = y.passed;
-    let taken = passed.taken;
-    let seen = passed.seen;
-    if !y.sent {
-        return closed(seen);
-    }
-    let next = place + taken;
-    let left = n - taken;
+    let n = kept + fill(file, texts, path, &mut room[kept..])?;
+    let Passed { taken, seen } = list_cards(rt, texts, lines, &room[0..n], n < 65536, seen)?;
     if n < 65536 || taken == 0 {
-        end_at(rt, texts, seen, next, &room[taken..n]);
-        return closed(seen);
+        end_at(rt, texts, seen, place + taken, &room[taken..n]);
+        return None;
     }
     move_down(room, taken, n);
-    Window {
-        open: true,
-        kept: left,
-        place: next,
+    Some(Window {
+        kept: n - taken,
+        place: place + taken,
         seen,
-    }
+    })
 }
 
-// All of an open file, room after room. A proved loop has to end, and nothing says that a file does, so it counts its turns down from a
-// number that no file uses up.
+// All of an open file, room after room. A proved loop has to end, and nothing says that a file does, so it counts more turns than any file
+// takes.
 fn list_all<F: Read>(
     rt: &impl Print,
     texts: &impl Print,
@@ -203,36 +150,22 @@ fn list_all<F: Read>(
     requires { length room.old ≡ 65536 }
 {
     let mut window = Window {
-        open: true,
         kept: 0,
         place: 0,
         seen: none_seen(),
     };
-    let mut turns = u64::MAX;
-    while turns > 0 && window.open {
-        window = list_some(rt, texts, room, lines, path, file, window);
-        turns -= 1;
+    for _ in 0..u64::MAX {
+        let Some(next) = list_some(rt, texts, room, lines, path, file, window) else {
+            return;
+        };
+        window = next;
     }
-}
-
-// Room for a part of a file.
-fn part_room() -> [u8; 65536]
-    ensures { 65536 ≡ length result }
-{
-    [0; 65536]
-}
-
-// Room for the lines of one card.
-fn line_room() -> [u8; 4096]
-    ensures { 4096 ≡ length result }
-{
-    [0; 4096]
 }
 
 // The cards of the file at path.
 pub fn list(rt: &(impl Files + Print), texts: &impl Print, path: &[u8]) {
-    let mut room = part_room();
-    let mut lines = line_room();
+    let mut room = octets::room::<65536>();
+    let mut lines = octets::room::<4096>();
     match disk::open(rt, path) {
         Ok(mut file) => list_all(rt, texts, &mut room, &mut lines, path, &mut file),
         Err(why) => says::failed(texts, path, &why),

@@ -2,20 +2,10 @@
 -- `Post` is the contract of a function, as it stands at the function. Assumes nothing.
 use mathlib.Core.Path.{sym, ◌∙◌}
 use Rattle.rules.proofs.Agreed.{OneResult}
-use Rattle.states.proofs.numbers_of.Kinds as numbers-of-kinds
-use Rattle.states.proofs.numbers_of.Reads as Numbers-of
-use Rattle.states.proofs.state_in.Kinds as state-in-kinds
-use Rattle.states.proofs.state_in.Reads as state-in
 use Rattle.states.proofs.none.Kinds as none-kinds
 use Rattle.states.proofs.none.Reads as none
 use Rattle.states.proofs.begin.Kinds as begin-kinds
 use Rattle.states.proofs.begin.Reads as begin
-
-pub one_numbers : OneResult 0 numbers-of-kinds.ps numbers-of-kinds.r Numbers-of.Post
-one_numbers κs a x y s t p q = p ∙ sym q
-
-pub one_state : OneResult 0 state-in-kinds.ps state-in-kinds.r state-in.Post
-one_state κs a x y s t p q = p ∙ sym q
 
 pub one_none : OneResult 0 none-kinds.ps none-kinds.r none.Post
 one_none κs a x y s t p q = p ∙ sym q

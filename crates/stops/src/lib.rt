@@ -1,50 +1,65 @@
-// The paper's number for each answer, and the value that goes with it. In code these numbers stand here and nowhere else; the rules
+// The paper's number for each answer, and the values that go with it. In code these numbers stand here and nowhere else; the rules
 // define them.
 #![tactic(auto)]
 
 mod counts;
 
-ghost use Rattle.std.specs.Prelude.{◌≡◌};
-ghost use Rattle.rules.specs.Numbers.{refusal_number, reckoned_number, reckoned_word, fault_number, deck_number, deck_place, bar_number, bar_place};
-ghost use Rattle.rules.specs.Numbers.{stop_number, outcome_number, outcome_shown, ending_number, ending_place, ending_shown, loading_number, loading_place, making_number, making_written};
+ghost use Rattle.std.specs.Prelude.{◌≡◌, Ok};
+ghost use Rattle.rules.specs.Numbers.{fault_number, stop_number, making_written};
+ghost use Rattle.stops.specs.Told.{refusal_told, reckoned_told, fault_told, check_told, bar_told, outcome_told, ending_told, loading_told, making_told};
 
 pub use counts::{completed_by, may_go_on};
-use rules::{Bar, DeckFault, Ending, Fault, Loading, Making, Outcome, Reckoned, Refusal, Stop};
+use rules::{
+    Bar, Deck, DeckFault, Done, Ending, Fault, Loading, Making, Outcome, Reckoned, Refusal, Stop,
+    Unmade,
+};
+
+// What is told of an answer: its number, and of the values that go with it the place and the word shown, each 0 where there is none.
+#[derive(Clone, Copy, Debug, PartialEq, Eq)]
+pub struct Told {
+    pub number: u64,
+    pub place: u64,
+    pub shown: u64,
+}
 
 // Why an order, or arithmetic on words, is refused.
-pub fn refusal_number(x: Refusal) -> u64
-    ensures { result ≡ refusal_number x }
-{
-    match x {
-        Refusal::BadAddress => 20,
-        Refusal::Unmarked => 21,
-        Refusal::NoRoom => 22,
-        Refusal::NotBuilt => 23,
-        Refusal::NotNumber => 24,
-        Refusal::ZeroDivisor => 25,
-        Refusal::NegativeRoot => 26,
-        Refusal::OutOfRange => 27,
-        Refusal::Unfit => 28,
-        Refusal::NoCard => 29,
+impl From<Refusal> for Told {
+    ghost from_gives = { λ x told. told ≡ refusal_told x };
+
+    fn from(x: Refusal) -> Told {
+        let number = match x {
+            Refusal::BadAddress => 20,
+            Refusal::Unmarked => 21,
+            Refusal::NoRoom => 22,
+            Refusal::NotBuilt => 23,
+            Refusal::NotNumber => 24,
+            Refusal::ZeroDivisor => 25,
+            Refusal::NegativeRoot => 26,
+            Refusal::OutOfRange => 27,
+            Refusal::Unfit => 28,
+            Refusal::NoCard => 29,
+        };
+        Told {
+            number,
+            place: 0,
+            shown: 0,
+        }
     }
 }
 
-// Arithmetic on words: 0 and the word, or the refusal's number and 0.
-pub fn reckoned_number(x: Reckoned) -> u64
-    ensures { result ≡ reckoned_number x }
-{
-    match x {
-        Reckoned::Result(_) => 0,
-        Reckoned::Refused(f) => refusal_number(f),
-    }
-}
+// Arithmetic on words: 0 and the word, or the refusal.
+impl From<Reckoned> for Told {
+    ghost from_gives = { λ x told. told ≡ reckoned_told x };
 
-pub fn reckoned_word(x: Reckoned) -> u64
-    ensures { result ≡ reckoned_word x }
-{
-    match x {
-        Reckoned::Result(w) => w,
-        Reckoned::Refused(_) => 0,
+    fn from(x: Reckoned) -> Told {
+        match x {
+            Ok(shown) => Told {
+                number: 0,
+                place: 0,
+                shown,
+            },
+            Err(why) => Told::from(why),
+        }
     }
 }
 
@@ -62,57 +77,59 @@ fn fault_number(x: Fault) -> u64
 }
 
 // A faulty deck, and the place of its first fault.
-pub fn deck_number(x: DeckFault) -> u64
-    ensures { result ≡ deck_number x }
-{
-    match x {
-        DeckFault::TooLong => 11,
-        DeckFault::At {
-            card: _,
-            fault,
-            byte: _,
-        } => fault_number(fault),
-        DeckFault::NoFirst(_) => 18,
+impl From<DeckFault> for Told {
+    ghost from_gives = { λ x told. told ≡ fault_told x };
+
+    fn from(x: DeckFault) -> Told {
+        let (number, place) = match x {
+            DeckFault::TooLong => (11, 65536),
+            DeckFault::At { fault, byte, .. } => (fault_number(fault), byte as u64),
+            DeckFault::NoFirst(n) => (18, n as u64),
+        };
+        Told {
+            number,
+            place,
+            shown: 0,
+        }
     }
 }
 
-pub fn deck_place(x: DeckFault) -> u64
-    ensures { result ≡ deck_place x }
-{
-    match x {
-        DeckFault::TooLong => 65536,
-        DeckFault::At {
-            card: _,
-            fault: _,
-            byte,
-        } => byte as u64,
-        DeckFault::NoFirst(p) => p as u64,
+// A deck as checked: 0 and 0 where it is good.
+impl From<Deck> for Told {
+    ghost from_gives = { λ x told. told ≡ check_told x };
+
+    fn from(x: Deck) -> Told {
+        match x {
+            Ok(_) => Told {
+                number: 0,
+                place: 0,
+                shown: 0,
+            },
+            Err(why) => Told::from(why),
+        }
     }
 }
 
 // A call of load or run that is refused at its entry.
-pub fn bar_number(x: Bar) -> u64
-    ensures { result ≡ bar_number x }
-{
-    match x {
-        Bar::BadDrum => 10,
-        Bar::BadDeck(f) => deck_number(f),
-        Bar::BadState => 12,
-    }
-}
+impl From<Bar> for Told {
+    ghost from_gives = { λ x told. told ≡ bar_told x };
 
-pub fn bar_place(x: Bar) -> u64
-    ensures { result ≡ bar_place x }
-{
-    match x {
-        Bar::BadDrum => 0,
-        Bar::BadDeck(f) => deck_place(f),
-        Bar::BadState => 0,
+    fn from(x: Bar) -> Told {
+        let number = match x {
+            Bar::BadDrum => 10,
+            Bar::BadDeck(fault) => return Told::from(fault),
+            Bar::BadState => 12,
+        };
+        Told {
+            number,
+            place: 0,
+            shown: 0,
+        }
     }
 }
 
 // The stops of orders.
-pub fn stop_number(x: Stop) -> u64
+fn stop_number(x: Stop) -> u64
     ensures { result ≡ stop_number x }
 {
     match x {
@@ -122,93 +139,85 @@ pub fn stop_number(x: Stop) -> u64
     }
 }
 
-// What a run came to, and the word it shows: +0 but for a stop.
-pub fn outcome_number(x: Outcome) -> u64
-    ensures { result ≡ outcome_number x }
-{
-    match x {
-        Outcome::Stops(k, _) => stop_number(k),
-        Outcome::GoesOn => 2,
-        Outcome::Undone(f) => refusal_number(f),
+// What a run did, and the word it shows: +0 but for a stop.
+impl From<Done> for Told {
+    ghost from_gives = { λ x told. told ≡ outcome_told (Ok x) };
+
+    fn from(x: Done) -> Told {
+        let (number, shown) = match x {
+            Done::GoesOn => (2, 0),
+            Done::Stops(stop, w) => (stop_number(stop), w),
+        };
+        Told {
+            number,
+            place: 0,
+            shown,
+        }
     }
 }
 
-pub fn outcome_shown(x: Outcome) -> u64
-    ensures { result ≡ outcome_shown x }
-{
-    match x {
-        Outcome::Stops(_, w) => w,
-        Outcome::GoesOn => 0,
-        Outcome::Undone(_) => 0,
+// What a run came to.
+impl From<Outcome> for Told {
+    ghost from_gives = { λ x told. told ≡ outcome_told x };
+
+    fn from(x: Outcome) -> Told {
+        match x {
+            Ok(done) => Told::from(done),
+            Err(why) => Told::from(why),
+        }
     }
 }
 
 // A whole call of run.
-pub fn ending_number(x: Ending) -> u64
-    ensures { result ≡ ending_number x }
-{
-    match x {
-        Ending::Ran(o) => outcome_number(o),
-        Ending::NotRun(b) => bar_number(b),
-    }
-}
+impl From<Ending> for Told {
+    ghost from_gives = { λ x told. told ≡ ending_told x };
 
-pub fn ending_place(x: Ending) -> u64
-    ensures { result ≡ ending_place x }
-{
-    match x {
-        Ending::Ran(_) => 0,
-        Ending::NotRun(b) => bar_place(b),
-    }
-}
-
-pub fn ending_shown(x: Ending) -> u64
-    ensures { result ≡ ending_shown x }
-{
-    match x {
-        Ending::Ran(o) => outcome_shown(o),
-        Ending::NotRun(_) => 0,
+    fn from(x: Ending) -> Told {
+        match x {
+            Ok(outcome) => Told::from(outcome),
+            Err(bar) => Told::from(bar),
+        }
     }
 }
 
 // A whole call of load: 0 where it is done.
-pub fn loading_number(x: Loading) -> u64
-    ensures { result ≡ loading_number x }
-{
-    match x {
-        Loading::Loaded => 0,
-        Loading::NotLoaded(b) => bar_number(b),
+impl From<Loading> for Told {
+    ghost from_gives = { λ x told. told ≡ loading_told x };
+
+    fn from(x: Loading) -> Told {
+        match x {
+            Ok(()) => Told {
+                number: 0,
+                place: 0,
+                shown: 0,
+            },
+            Err(bar) => Told::from(bar),
+        }
     }
 }
 
-pub fn loading_place(x: Loading) -> u64
-    ensures { result ≡ loading_place x }
-{
-    match x {
-        Loading::Loaded => 0,
-        Loading::NotLoaded(b) => bar_place(b),
+// A whole call of make: 0, or why there is no deck.
+impl From<Making> for Told {
+    ghost from_gives = { λ x told. told ≡ making_told x };
+
+    fn from(x: Making) -> Told {
+        let number = match x {
+            Ok(_) => 0,
+            Err(Unmade::UnfitDrum) => 10,
+            Err(Unmade::UnfitNumber) => 12,
+            Err(Unmade::Full) => 22,
+        };
+        Told {
+            number,
+            place: 0,
+            shown: 0,
+        }
     }
 }
 
-// A whole call of make: 0 and the bytes of the deck, or the number and 0.
-pub fn making_number(x: Making) -> u64
-    ensures { result ≡ making_number x }
-{
-    match x {
-        Making::Made(_) => 0,
-        Making::UnfitDrum => 10,
-        Making::UnfitNumber => 12,
-        Making::Full => 22,
-    }
-}
-
+// The bytes of the deck that a call of make made: none where it was refused.
 pub fn making_written(x: Making) -> usize
     ensures { result ≡ making_written x }
 {
-    match x {
-        Making::Made(n) => n,
-        Making::UnfitDrum => 0,
-        Making::UnfitNumber => 0,
-        Making::Full => 0,
-    }
+    x.unwrap_or(0)
 }

@@ -15,14 +15,14 @@ use rules::Address;
 pub use targets::{address_target, exponent_target, sign_target};
 
 // An order taken apart: O1 and A as one number of four digits, B and C.
-#[derive(Clone, Copy)]
+#[derive(Clone, Copy, Debug, PartialEq, Eq)]
 pub struct Parts {
     pub key: usize,
     pub b: usize,
     pub c: usize,
 }
 
-// The parts of a word as an order.
+// The parts of a word as an order. A function, since docs/PROMISES.md names it, and no plainer as a From of any u64.
 pub fn parts_of(w: u64) -> Parts
     ensures { PartsIn w result }
 {
@@ -45,10 +45,7 @@ pub fn is_minus(w: u64) -> bool
 pub fn is_negative(w: u64) -> bool
     ensures { result ≡ is_negative w }
 {
-    if w / 10_000_000_000 == 1 {
-        return 0 < w % 10_000_000_000;
-    }
-    false
+    is_minus(w) && 0 < w % 10_000_000_000
 }
 
 // The last two digits of a word.
@@ -58,7 +55,7 @@ pub fn exponent_in(w: u64) -> usize
     (w % 100) as usize
 }
 
-// One address of a word.
+// One address of a word. With a numeral in each arm no order waits for a division, which w / worth_of(x) would be.
 pub fn address_in(x: Address, w: u64) -> u64
     ensures { result ≡ address_in x w }
 {
@@ -69,7 +66,7 @@ pub fn address_in(x: Address, w: u64) -> u64
     }
 }
 
-// What one unit of an address is worth in a word.
+// What one unit of an address is worth in a word. Address is of the crate rules, so that this is no method of it.
 pub fn worth_of(x: Address) -> u64
     ensures { result ≡ worth_of x }
 {

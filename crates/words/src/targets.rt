@@ -17,14 +17,16 @@ pub fn sign_target(w: u64, b: usize, c: usize) -> usize
 pub fn exponent_target(w: u64, b: usize, c: usize, next: usize) -> usize
     ensures { result ≡ pick (leb b (exponent_in w)) c next }
 {
-    let x = exponent_in(w);
-    if b <= x { c } else { next }
+    if b <= exponent_in(w) { c } else { next }
 }
 
 // TR A, TR B and TR C: to the order behind where that address of the word is b, else to c.
 pub fn address_target(x: Address, w: u64, b: usize, c: usize, next: usize) -> usize
     ensures { result ≡ pick (eqb (address_in x w) b) next c }
 {
-    let y = address_in(x, w);
-    if y == b as u64 { next } else { c }
+    if address_in(x, w) == b as u64 {
+        next
+    } else {
+        c
+    }
 }

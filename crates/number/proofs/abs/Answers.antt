@@ -1,13 +1,12 @@
 -- `number::abs` meets its contract: the digits with plus. Assumes nothing.
-use Rattle.rules.specs.Words.{is_number}
 use Rattle.rules.specs.Arithmetic.{abs_of}
-use Rattle.number.proofs.Operands.{refused, accepted}
+use Rattle.number.proofs.Taken.{no_number, of_one}
 use Rattle.number.proofs.abs.Goals as goal
 
-pub returns-then-not-is_number : goal.returns-then-not-is_number
+pub returns-in_err-operand : goal.returns-in_err-operand
 unfolding abs_of
-returns-then-not-is_number c = refused (is_number c.args.b) c.is_number.ensures _ c.if-not-is_number.true
+returns-in_err-operand c = no_number c.args.b _ c.from_residual.result c.from_residual.ensures.1 c.in_err-operand.ensures
 
 pub returns : goal.returns
 unfolding abs_of
-returns c = accepted (is_number c.args.b) c.is_number.ensures _ c.if-not-is_number.false
+returns c = of_one c.args.b _ c.in_ok-operand.ensures.0

@@ -1,22 +1,27 @@
 -- `number::ngmpy` meets its contract: minus where one of the two has it, turned. Assumes nothing.
 use mathlib.Core.Path.{ap, ◌∙◌}
-use Rattle.rules.specs.Words.{both, is_number}
 use Prim.Native.Nat.{ℕ, ◌-◌}
-use Rattle.rules.specs.Rounding.{single, product_of}
-use Rattle.rules.specs.Arithmetic.{value_in, word_of, ngmpy_of}
-use Rattle.number.proofs.Operands.{refused, accepted}
+use Rattle.rules.specs.Rounding.{Value, single, product_of}
+use Rattle.rules.specs.Arithmetic.{word_of, ngmpy_of}
+use Rattle.number.specs.Operands.{value_of}
+use Rattle.number.proofs.Taken.{no_first, no_second, of_two, of_signs, other_sign}
 use Rattle.number.proofs.ngmpy.Goals as goal
 
-pub returns-then-not-both_numbers : goal.returns-then-not-both_numbers
+pub returns-in_err-x : goal.returns-in_err-x
 unfolding ngmpy_of
-returns-then-not-both_numbers c =
-    let a = c.args in
-    refused (both (is_number a.a) (is_number a.b)) c.both_numbers.ensures _ c.if-not-both_numbers.true
+returns-in_err-x c = no_first c.args.a _ c.args.b c.from_residual.result c.from_residual.ensures.1 c.in_err-x.ensures
+
+pub returns-in_err-y : goal.returns-in_err-y
+unfolding ngmpy_of
+returns-in_err-y c =
+    no_second c.args.a _ c.args.b c.from_residual-in_err-y.result c.from_residual-in_err-y.ensures.1 c.in_ok-x.ensures.0 c.in_err-y.ensures
 
 pub returns : goal.returns
 unfolding ngmpy_of
 returns c =
-    let a = c.args in
+    let x = c.in_ok-x.ensures in
+    let y = c.in_ok-y.ensures in
     c.times.ensures
-    ∙ ap (λ (s : ℕ). word_of (product_of single (1 - s) (value_in a.a) (value_in a.b))) c.crossed.ensures
-    ∙ accepted (both (is_number a.a) (is_number a.b)) c.both_numbers.ensures _ c.if-not-both_numbers.false
+    ∙ ap (λ (s : ℕ). word_of (product_of single s (value_of c.in_ok-x.x) (value_of c.in_ok-y.y))) (other_sign c.crossed.result)
+    ∙ of_signs _ _ _ _ x.1 y.1 (λ (s : ℕ) (u v : Value). word_of (product_of single (1 - s) u v)) _ c.crossed.ensures
+    ∙ of_two c.args.a _ c.args.b x.0 y.0

@@ -7,10 +7,7 @@ use Rattle.card.proofs.Looks.{Looked}
 use Rattle.card.proofs.checking.check_deck.Given as goal
 
 abbrev pub invariant-loop-o : goal.invariant-loop-o
-invariant-loop-o l = Looked l.words l.rest l.size l.o
-
-abbrev pub decreases-loop-o : goal.decreases-loop-o
-decreases-loop-o l = l.size - l.o
+invariant-loop-o l = Looked l.form.words l.rest l.o-end l.o
 
 abbrev pub invariant-cards : goal.invariant-cards
 invariant-cards l = Checking l.deck l.at l.sofar

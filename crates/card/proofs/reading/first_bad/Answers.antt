@@ -1,7 +1,8 @@
 -- `card::first_bad` meets its contract: at each place what is left to look at has the answer of the whole. Assumes nothing.
+use mathlib.Core.Path.{◌∙◌}
 use native.Mathlib.Omega.{arith}
 use borrow.Author.Tests.{not-true, not-false}
-use Rattle.card.proofs.Looks.{look_begin, look_more, look_bad, look_end}
+use Rattle.card.proofs.Looks.{look_begin, look_more, look_bad, look_none}
 use Rattle.card.proofs.reading.first_bad.Goals as goal
 
 pub loop-o-init : goal.loop-o-init
@@ -16,4 +17,4 @@ loop-o-preserved c =
     look_more _ _ _ _ c.loop-o.invariant (omega arith) (cc (not-false c.is_due.result c.if-not-is_due.false-raw))
 
 pub returns : goal.returns
-returns c = look_end _ _ _ _ c.loop-o.invariant (omega arith)
+returns c = c.max.ensures ∙ look_none _ _ _ _ c.loop-o.invariant (omega arith) (omega arith)

@@ -55,7 +55,7 @@ overflow_add-n-2 c = omega (arith, few (goal.at.overflow_add-n-2 c).Else-not-dat
 
 pub put_card-requires : goal.put_card-requires
 put_card-requires c =
-    record { words_in = omega (arith, few (goal.at.put_card-requires c).Else-not-data_may, five (goal.at.put_card-requires c).Start); room_left = c.if-out-n.false }
+    omega (arith, taken (goal.at.put_card-requires c).Else-not-data_may, c.if-out-n.false)
 
 pub returns : goal.returns
 unfolding data_card

@@ -3,7 +3,6 @@ use mathlib.Core.Path.{◌≡◌, sym, ◌∙◌}
 use native.Mathlib.Omega.{arith}
 use borrow.Author.Tests.{not-true, not-false}
 use lib.ListN.{length}
-use lib.Seq.{take_all}
 use Rattle.rules.specs.Cards.{trace_card}
 use Rattle.rules.proofs.Fields.{length_trace}
 use Rattle.card.proofs.Writes.{out_of_range, no_room, whole_card_lem}
@@ -27,4 +26,4 @@ pub returns : goal.returns
 unfolding trace_card
 returns c =
     whole_card_lem _ _ _ _ (sym c.trace_may.ensures ∙ not-false _ c.if-not-trace_may.false-raw) (omega (arith, c.if-out-lt77.false, size (goal.at.returns c).Start))
-    (rw (take_all 6 c.args.words (omega (arith, six (goal.at.returns c).Start))) at c.put_card.ensures)
+    c.put_card.ensures

@@ -15,7 +15,7 @@ dash n e = ap (λ (i : ℕ). name_at i codes) (sym e)
 
 pub returns-then-i-lt40 : goal.returns-then-i-lt40
 returns-then-i-lt40 c =
-    c.row_at-row.ensures.2 ∙ ap (λ (n : ℕ). name_at n codes) c.row_of-i.ensures.0 ∙ named c.args.code codes
+    c.row_at.ensures.2 ∙ ap (λ (n : ℕ). name_at n codes) c.row_of-i.ensures.0 ∙ named c.args.code codes
 
 pub returns : goal.returns
 unfolding bytes

@@ -1,5 +1,5 @@
 -- `codes::rows::row_of` meets its contract: at each row what is left of the table has the answer of the whole. Assumes nothing.
-use mathlib.Core.Path.{sym, ◌∙◌}
+use mathlib.Core.Path.{◌≡◌, sym, ◌∙◌}
 use native.Mathlib.Omega.{arith}
 use Rattle.codes.proofs.Found.{search_begin, search_found, search_more, search_end}
 use Rattle.codes.proofs.rows.row_of.Goals as goal
@@ -15,4 +15,6 @@ pub loop-i-preserved : goal.loop-i-preserved
 loop-i-preserved c = search_more _ _ c.loop-i.invariant (omega arith) (λ e. c.if-code_at-code.false (c.code_at.ensures ∙ e))
 
 pub returns : goal.returns
-returns c = (search_end _ _ c.loop-i.invariant (omega arith), c.loop-i.invariant.upto)
+returns c =
+    let e : 40 ≡ c.loop-i.i = omega (arith, c.loop-i.invariant.upto) in
+    (e ∙ search_end _ _ c.loop-i.invariant (omega arith), omega arith)

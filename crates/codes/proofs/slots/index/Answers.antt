@@ -11,13 +11,7 @@ use Rattle.codes.proofs.slots.index.Goals as goal
 
 pub loop-i-init : goal.loop-i-init
 unfolding laid_out
-loop-i-init c = (refl, omega arith)
-
-pub code_at-requires : goal.code_at-requires
-code_at-requires c = c.loop-i-test.true
-
-pub overflow_cast-index : goal.overflow_cast-index
-overflow_cast-index c = omega (arith, c.loop-i-test.true)
+loop-i-init c = refl
 
 pub offset_bounds-index-slot : goal.offset_bounds-index-slot
 offset_bounds-index-slot c = omega (arith, c.slot_of-slot.ensures, slot_small c.code_at.result)
@@ -25,26 +19,22 @@ offset_bounds-index-slot c = omega (arith, c.slot_of-slot.ensures, slot_small c.
 pub bounds-index-slot : goal.bounds-index-slot
 bounds-index-slot c = omega (arith, c.slot_of-slot.ensures, slot_small c.code_at.result)
 
-pub overflow_add-i : goal.overflow_add-i
-overflow_add-i c = omega (arith, c.loop-i-test.true)
-
 pub loop-i-preserved : goal.loop-i-preserved
 loop-i-preserved c =
-    let v = c.loop-i.invariant in
-    (laid_more _ _ _ _ v.0 c.slot_of-slot.ensures c.code_at.ensures, omega (arith, v.1))
+    laid_more _ _ _ _ c.loop-i.invariant c.slot_of-slot.ensures c.code_at.ensures
 
 pub bounds-index-454 : goal.bounds-index-454
-bounds-index-454 c = omega (arith, long_enough c.loop-i.i, ap length c.loop-i.invariant.0)
+bounds-index-454 c = omega (arith, long_enough c.loop-i.i, ap length c.loop-i.invariant)
 
 pub bounds-index-410 : goal.bounds-index-410
-bounds-index-410 c = omega (arith, long_enough c.loop-i.i, ap length c.loop-i.invariant.0)
+bounds-index-410 c = omega (arith, long_enough c.loop-i.i, ap length c.loop-i.invariant)
 
 pub returns-then-traced : goal.returns-then-traced
 returns-then-traced c =
-    let n : c.loop-i.i ≡ 40 = omega (arith, c.loop-i.invariant.1, c.loop-i-test.false) in
-    indexed _ _ (ap (λ (l : List ℕ). set l 410 (get_or l 454 0)) (c.loop-i.invariant.0 ∙ ap laid_out n) ∙ laid_traced ∙ ap index_for (sym c.if-traced.true))
+    let n : c.loop-i.i ≡ 40 = omega arith in
+    indexed _ _ (ap (λ (l : List ℕ). set l 410 (get_or l 454 0)) (c.loop-i.invariant ∙ ap laid_out n) ∙ laid_traced ∙ ap index_for (sym c.if-traced.true))
 
 pub returns : goal.returns
 returns c =
-    let n : c.loop-i.i ≡ 40 = omega (arith, c.loop-i.invariant.1, c.loop-i-test.false) in
-    indexed _ _ (c.loop-i.invariant.0 ∙ ap laid_out n ∙ laid_plain ∙ ap index_for (sym c.if-traced.false))
+    let n : c.loop-i.i ≡ 40 = omega arith in
+    indexed _ _ (c.loop-i.invariant ∙ ap laid_out n ∙ laid_plain ∙ ap index_for (sym c.if-traced.false))

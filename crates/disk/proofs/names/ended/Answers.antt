@@ -10,4 +10,4 @@ use Rattle.disk.proofs.names.ended.Goals as goal
 pub returns : goal.returns
 returns c =
     let p = c.args.path.now in
-    record { bytes = ap (λ (l : List ℕ). set l 4095 0) (c.put.ensures.put.1 ∙ ap (λ (l : List ℕ). with_part l 0 p) c.path_room-name.ensures); ended = search rules }
+    record { bytes = ap (λ (l : List ℕ). set l 4095 0) (c.put.ensures.put.1 ∙ ap (λ (l : List ℕ). with_part l 0 p) c.room-name.ensures.zeros); ended = search rules }

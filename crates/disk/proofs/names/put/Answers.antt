@@ -16,6 +16,6 @@ pub returns : goal.returns
 returns c =
     let a = c.args in
     let left : ℕ = length a.out.now - a.at in
-    let e : c.lesser.result ≡ length (take left a.part.now) = c.lesser.ensures ∙ sym (length-take left a.part.now) in
+    let e : c.min.result ≡ length (take left a.part.now) = c.min.ensures ∙ sym (length-take left a.part.now) in
     let f : a.at + length (take left a.part.now) ≤ length a.out.now = omega (arith, c.requires, take_short left a.part.now) in
     record { put = (ap (λ (k : ℕ). a.at + k) e, c.copy.ensures ∙ put_fits a.at (take left a.part.now) a.out.now refl f); within = omega (arith, e, f, c.copy.auto.out) }

@@ -1,7 +1,7 @@
 -- `faults::sentences::said_of` meets its contract, fault by fault. Assumes nothing.
 use Rattle.rules.specs.Bytes.{bytes}
 use Rattle.faults.specs.Sentences.{card_sentence}
-use Rattle.faults.proofs.Says.{as_fault}
+use Rattle.faults.proofs.Says.{then_said, as_fault}
 use Rattle.faults.proofs.sentences.said_of.Goals as goal
 
 pub returns-in-UnknownKind : goal.returns-in-UnknownKind
@@ -14,7 +14,7 @@ pub returns-in-SecondFirst : goal.returns-in-SecondFirst
 unfolding card_sentence bytes
 returns-in-SecondFirst c =
     let a = c.args in
-    as_fault a.k a.place a.o a.rest.now c.in-SecondFirst.is (c.with.ensures _ c.head-line.ensures)
+    as_fault a.k a.place a.o a.rest.now c.in-SecondFirst.is (then_said _ _ c.head.ensures c.with.ensures)
 
 pub returns-in-CutShort : goal.returns-in-CutShort
 unfolding card_sentence

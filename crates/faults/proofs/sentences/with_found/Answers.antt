@@ -5,4 +5,4 @@ use Rattle.faults.proofs.sentences.with_found.Goals as goal
 
 pub returns : goal.returns
 unfolding bytes
-returns c = adds_two (bytes "the byte there is ") _ c.with.ensures c.with_byte.ensures
+returns c = adds_two c.args.line (bytes "the byte there is ") _ c.with.ensures c.with_byte.ensures

@@ -25,8 +25,8 @@ loop-i-preserved c =
     let l = c.loop-i in (
       simp length-set (omega arith),
       simp length-set l.invariant.1,
-      fill_more _ _ _ (length_in _ _) l.invariant.2 c.number_at-x.result
-          (c.number_at-x.ensures
+      fill_more _ _ _ (length_in _ _) l.invariant.2 c.number_at.result
+          (c.number_at.ensures
           ∙ ap (λ (t : List ℕ). number_of (take 8 t)) (sym (drop-drop (8 * l.i) a.a a.bytes.now))
           ∙ sym (in_at (length a.row.now) (drop a.a a.bytes.now) l.i (omega arith)))
           (omega arith),

@@ -44,14 +44,14 @@ pub overflow_mul-x : goal.overflow_mul-x
 overflow_mul-x c = omega (arith, small _ _ c.loop-i.invariant.2 (omega arith))
 
 pub overflow_add-x : goal.overflow_add-x
-overflow_add-x c = omega (arith, small _ _ c.loop-i.invariant.2 (omega arith), c.wide.ensures.1)
+overflow_add-x c = omega (arith, small _ _ c.loop-i.invariant.2 (omega arith), c.from.ensures, c.type_inv.bytes (c.args.a + (c.loop-i.i - 1)))
 
 pub loop-i-preserved : goal.loop-i-preserved
 loop-i-preserved c =
     let l = c.loop-i in (
       omega arith,
-      more _ _ _ _ c.requires l.invariant.1 (omega arith) l.invariant.0 c.wide.ensures.0,
-      grows _ _ _ l.invariant.2 c.wide.ensures.1 (omega arith) l.invariant.0,
+      more _ _ _ _ c.requires l.invariant.1 (omega arith) l.invariant.0 c.from.ensures,
+      grows _ _ _ l.invariant.2 (omega (arith, c.from.ensures, c.type_inv.bytes (c.args.a + (l.i - 1)))) (omega arith) l.invariant.0,
     )
 
 pub returns : goal.returns

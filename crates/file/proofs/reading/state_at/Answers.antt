@@ -6,4 +6,4 @@ use Rattle.file.proofs.reading.state_at.Goals as goal
 
 pub returns : goal.returns
 unfolding state_of
-returns c = c.state_in.ensures ∙ ap state_in c.fill_row.ensures
+returns c = c.from.ensures ∙ ap state_in c.fill_row.ensures

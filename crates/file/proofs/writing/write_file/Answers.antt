@@ -27,4 +27,4 @@ returns c =
     let a = c.args in
     whole_card_lem _ _ _ _ (whole_is a.drum.now a.marks.now c.if-drum-ne1000.false c.if-marks-ne1000.false)
     (omega (arith, c.if-drum-ne1000.false, c.if-marks-ne1000.false, c.if-out-lt9072.false, length_file a.drum.now a.marks.now a.state))
-    (rw c.numbers_of-numbers.ensures at c.put_file.ensures)
+    (rw c.from.ensures at c.put_file.ensures)

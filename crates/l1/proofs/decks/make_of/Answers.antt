@@ -5,5 +5,5 @@ use Rattle.l1.proofs.decks.make_of.Goals as goal
 pub send_made-requires : goal.send_made-requires
 send_made-requires g c =
     let a = c.args in
-    made_told a.drum.now a.marks.now a.options a.state _ _ _ _ _ _ c.made_room-out.ensures c.problem_of-problem.ensures
+    made_told a.drum.now a.marks.now a.options a.state _ _ _ _ _ _ _ c.room-out.ensures.size c.first_of.ensures c.problem_of-problem.ensures
     c.make-made.ensures c.write_making-n.ensures.closed

@@ -13,4 +13,4 @@ slice_bounds-send_cells-end g c = (counts _ _ (line_within _ _ _ _ c.write_cells
 
 pub send_cells-requires : goal.send_cells-requires
 send_cells-requires g c =
-    cells_sent (view c.args.drum.now c.args.marks.now) c.write_cells-n.ensures c.lines_room-lines.ensures
+    cells_sent (view c.args.drum.now c.args.marks.now) c.write_cells-n.ensures c.room-lines.ensures.size

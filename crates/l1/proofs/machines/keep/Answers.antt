@@ -5,4 +5,4 @@ use Rattle.l1.proofs.machines.keep.Goals as goal
 pub replace_file-requires : goal.replace_file-requires
 replace_file-requires g c =
     let a = c.args in
-    file_whole a.drum.now a.marks.now a.state c.write_file.ensures c.if-write_file.true c.file_bytes-bytes.ensures
+    file_whole a.drum.now a.marks.now a.state c.write_file.ensures c.if-write_file.true c.room-bytes.ensures.size

@@ -10,5 +10,5 @@ use Rattle.l1.proofs.machines.make.Goals as goal
 pub make_file-requires : goal.make_file-requires
 make_file-requires g c =
     let drum = c.args.drum.now in
-    file_whole drum c.no_marks-marks.result c.none.result c.write_file.ensures c.if-write_file.true c.file_bytes-bytes.ensures
-    ∙ ap₂ (λ (l : List ℕ) (s : State). file_of drum l s) c.no_marks-marks.ensures.zeros c.none.ensures
+    file_whole drum c.room-marks.result c.none.result c.write_file.ensures c.if-write_file.true c.room-bytes.ensures.size
+    ∙ ap₂ (λ (l : List ℕ) (s : State). file_of drum l s) c.room-marks.ensures.zeros c.none.ensures

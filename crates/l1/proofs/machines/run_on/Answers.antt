@@ -1,7 +1,6 @@
 -- `l1::machines::run_on`: the closing of a run can always be written. Assumes nothing.
-use borrow.Author.Tests.{not-false}
 use Rattle.l1.proofs.Rooms.{went_closes}
 use Rattle.l1.proofs.machines.run_on.Goals as goal
 
 pub finish-requires : goal.finish-requires
-finish-requires g c = went_closes _ _ _ _ _ (c.run_as-g.ensures (not-false c.run_as-g.result.sent c.if-not-g.false))
+finish-requires g c = went_closes _ _ _ _ _ c.in-Some-run_as.ensures

@@ -1,7 +1,6 @@
 -- `l1::sessions::go_on` meets its contract: what is left to do in empty rooms is the whole, and each room takes some of the budget. Assumes nothing.
 use Prim.Native.Nat.{◌-◌}
 use mathlib.Core.Path.{◌≡◌, refl, sym, ◌∙◌}
-use mathlib.Core.Bool.{true≢false}
 use native.Mathlib.Omega.{arith}
 use lib.ListN.{length}
 use borrow.Author.Rules.{rules}
@@ -31,12 +30,9 @@ send_cards-requires g c =
     let e : length c.run-x.new.out ≡ length c.loop-switches.out = search rules in
     (refl, omega (arith, written_fits (call g (goal.at.send_cards-requires g c).After-run-x) c.run-x.ensures e, e))
 
-pub returns-then-not-send_cards : goal.returns-then-not-send_cards
-returns-then-not-send_cards g c = λ e. absurd (true≢false (sym e))
-
 pub returns-then-not-may_refill : goal.returns-then-not-may_refill
 returns-then-not-may_refill g c =
-    λ e. run_over (call g (goal.at.returns-then-not-may_refill g c).After-run-x) c.run-x.ensures c.loop-switches.count c.loop-switches.invariant.0 _ (sym c.may_refill.ensures ∙ not-true _ c.if-not-may_refill.true-raw) c.loop-switches.invariant.6
+    run_over (call g (goal.at.returns-then-not-may_refill g c).After-run-x) c.run-x.ensures c.loop-switches.count c.loop-switches.invariant.0 _ (sym c.may_refill.ensures ∙ not-true _ c.if-not-may_refill.true-raw) c.loop-switches.invariant.6
 
 pub overflow_sub-left : goal.overflow_sub-left
 overflow_sub-left g c =

@@ -3,4 +3,4 @@ use Rattle.l1.proofs.Rooms.{went_closes}
 use Rattle.l1.proofs.sessions.play_on.Goals as goal
 
 pub tell-requires : goal.tell-requires
-tell-requires g c = went_closes _ _ _ _ _ (c.run_as-g.ensures c.if-g.true)
+tell-requires g c = went_closes _ _ _ _ _ c.in-Some.ensures

@@ -1,20 +1,29 @@
 -- `list::kinds::is_stop` meets its contract: its tests are those of the definition. Assumes nothing.
-use mathlib.Core.Path.{ap}
+use mathlib.Core.Path.{◌≡◌, sym, ap, ◌∙◌}
+use mathlib.Core.Bool.{false}
 use Prim.Native.Nat.{ℕ}
-use borrow.Author.Tests.{lt-leb, le-leb, eq-eqb, ne_eqb}
+use borrow.Author.Tests.{lt-leb, le-leb}
 use lib.Dec.{eqb}
+use Rattle.rules.proofs.Tests.{false_true}
 use Rattle.list.specs.Listing.{is_stop}
 use Rattle.list.proofs.kinds.is_stop.Goals as goal
+use Rattle.list.proofs.kinds.is_stop.Goals.{then-rest-ge24, else-rest-ge24}
 
-pub returns-then-rest-lt24 : goal.returns-then-rest-lt24
+pub returns-then-rest-eq90 : goal.returns-then-rest-eq90
 unfolding is_stop
-returns-then-rest-lt24 c = simp (lt-leb 24 _ c.if-rest-lt24.true)
+returns-then-rest-eq90 c =
+    elim c.if-rest-ge24.branch [
+      | then-rest-ge24 w ↦
+          simp (le-leb 24 _ w.if-rest-ge24.true, sym w.value-is ∙ c.if-rest-eq90.true) (ap (λ (k : ℕ). eqb k 24) c.stop_bad.ensures)
+      | else-rest-ge24 w ↦ false_true (sym (lt-leb 24 _ w.if-rest-ge24.false) ∙ sym w.value-is ∙ c.if-rest-eq90.true)
+    ]
 
-pub returns-then-rest-ne90 : goal.returns-then-rest-ne90
+pub returns-else-rest-eq90 : goal.returns-else-rest-eq90
 unfolding is_stop
-returns-then-rest-ne90 c = simp (le-leb 24 _ c.if-rest-lt24.false, ne_eqb _ 90 c.if-rest-ne90.true)
-
-pub returns : goal.returns
-unfolding is_stop
-returns c =
-    simp (le-leb 24 _ c.if-rest-lt24.false, eq-eqb _ 90 c.if-rest-ne90.false) (ap (λ (k : ℕ). eqb k 24) c.stop_bad.ensures)
+returns-else-rest-eq90 c =
+    let no : false ≡ is_stop c.args.rest.now =
+    elim c.if-rest-ge24.branch [
+      | then-rest-ge24 w ↦ simp (le-leb 24 _ w.if-rest-ge24.true, sym w.value-is ∙ c.if-rest-eq90.false)
+      | else-rest-ge24 w ↦ simp (lt-leb 24 _ w.if-rest-ge24.false)
+    ] in
+    c.if-rest-eq90.false ∙ no

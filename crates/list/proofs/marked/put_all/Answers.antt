@@ -6,7 +6,7 @@ use mathlib.Core.List.{List}
 use native.Mathlib.Omega.{arith}
 use lib.ListN.{length}
 use Rattle.rules.specs.Drum.{view, cell_at}
-use Rattle.rules.specs.declared.Cell.{Cell}
+use Rattle.rules.specs.Answers.{Cell}
 use Rattle.octets.specs.Put.{splice}
 use Rattle.octets.proofs.Joins.{Put, put_nothing, put_part}
 use Rattle.list.specs.Marked.{line_of, lines_upto}
@@ -32,26 +32,25 @@ next_line {d = d} {m = m} {e = e} v a h f r k =
 
 pub loop-address-init : goal.loop-address-init
 unfolding lines_upto
-loop-address-init c = (omega arith, refl, put_nothing c.args.out.now refl (omega arith))
+loop-address-init c = (refl, put_nothing c.args.out.now refl (omega arith))
 
 pub put_marked-at-requires : goal.put_marked-at-requires
 put_marked-at-requires c =
-    omega (arith, c.loop-address.invariant.1, (room (goal.at.put_marked-at-requires c).Start c.loop-address.address c.loop-address.at c.loop-address.out (omega arith) c.loop-address.invariant.2).0)
+    omega (arith, c.loop-address.invariant.0, (room (goal.at.put_marked-at-requires c).Start c.loop-address.address c.loop-address.at c.loop-address.out (omega arith) c.loop-address.invariant.1).0)
 
 pub overflow_add-at : goal.overflow_add-at
 overflow_add-at c =
-    omega (arith, c.put_marked-at.ensures.size, (room (goal.at.overflow_add-at c).Start c.loop-address.address c.loop-address.at c.loop-address.out (omega arith) c.loop-address.invariant.2).1)
+    omega (arith, c.put_marked-at.ensures.size, (room (goal.at.overflow_add-at c).Start c.loop-address.address c.loop-address.at c.loop-address.out (omega arith) c.loop-address.invariant.1).1)
 
 pub loop-address-preserved : goal.loop-address-preserved
 loop-address-preserved c =
-    let r = (room (goal.at.loop-address-preserved c).Start c.loop-address.address c.loop-address.at c.loop-address.out (omega arith) c.loop-address.invariant.2).0 in (
-      omega arith,
-      c.put_marked-at.auto.out ∙ c.loop-address.invariant.1,
-      next_line (cells (goal.at.loop-address-preserved c).Start) c.loop-address.address c.loop-address.invariant.2 c.put_marked-at.ensures.written (omega (arith, c.put_marked-at.ensures.size))
+    let r = (room (goal.at.loop-address-preserved c).Start c.loop-address.address c.loop-address.at c.loop-address.out (omega arith) c.loop-address.invariant.1).0 in (
+      c.put_marked-at.auto.out ∙ c.loop-address.invariant.0,
+      next_line (cells (goal.at.loop-address-preserved c).Start) c.loop-address.address c.loop-address.invariant.1 c.put_marked-at.ensures.written (omega (arith, c.put_marked-at.ensures.size))
           (omega (arith, r, c.put_marked-at.ensures.size)),
     )
 
 pub returns : goal.returns
 returns c =
-    let e : c.loop-address.address ≡ 1000 = omega (arith, c.loop-address.invariant.0) in
-    c.loop-address.invariant.2.same ∙ ap (λ (k : ℕ). splice 0 (lines_upto (cells (goal.at.returns c).Start) k) c.args.out.now) e
+    let e : c.loop-address.address ≡ 1000 = omega arith in
+    c.loop-address.invariant.1.same ∙ ap (λ (k : ℕ). splice 0 (lines_upto (cells (goal.at.returns c).Start) k) c.args.out.now) e

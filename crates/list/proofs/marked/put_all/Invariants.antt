@@ -1,6 +1,5 @@
 -- `list::marked::put_all`: the loop's invariant is that the lines of the cells passed stand in the output, and all else is as it was.
 -- Assumes nothing.
-use Prim.Native.Nat.{◌-◌, ◌≤◌}
 use mathlib.Core.Path.{◌≡◌}
 use lib.ListN.{length}
 use Rattle.rules.specs.Drum.{view}
@@ -9,7 +8,4 @@ use Rattle.list.specs.Marked.{lines_upto}
 use Rattle.list.proofs.marked.put_all.Given as goal
 
 abbrev pub invariant-loop-address : goal.invariant-loop-address
-invariant-loop-address l = (l.address ≤ 1000) × (length l.out ≡ length l.initial.out) × Put l.initial.out 0 (lines_upto (view l.drum l.marks) l.address) l.at l.out
-
-abbrev pub decreases-loop-address : goal.decreases-loop-address
-decreases-loop-address l = 1000 - l.address
+invariant-loop-address l = (length l.out ≡ length l.initial.out) × Put l.initial.out 0 (lines_upto (view l.drum l.marks) l.address) l.at l.out

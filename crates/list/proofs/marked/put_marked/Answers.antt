@@ -5,7 +5,7 @@ use mathlib.Core.List.{List}
 use native.Mathlib.Omega.{arith}
 use lib.ListN.{length}
 use Rattle.rules.specs.Drum.{view, cell_at, shown}
-use Rattle.rules.specs.declared.Cell.{Cell}
+use Rattle.rules.specs.Answers.{Cell}
 use Rattle.octets.specs.Put.{splice}
 use Rattle.octets.proofs.Splices.{splice_none}
 use Rattle.list.specs.Listing.{cell_line}

@@ -1,8 +1,24 @@
 -- `machine::entering::state_fits`: the tests are those of the rules, one after another. Assumes nothing.
+use borrow.Author.Rules.{rules}
 use Rattle.rules.specs.Running.{state_fits}
 use Rattle.machine.proofs.entering.state_fits.Goals as goal
 
-pub returns : goal.returns
+pub returns-then-budget-gt999999 : goal.returns-then-budget-gt999999
 unfolding state_fits
-returns c =
-    simp (c.and-11.ensures, c.and-10.ensures, c.and-9.ensures, c.and-8.ensures, c.and-7.ensures, c.and-6.ensures, c.and-5.ensures, c.and-4.ensures, c.and-3.ensures, c.and-2.ensures, c.and.ensures, c.may_stand-stands.ensures, c.is_owned-owned.ensures)
+returns-then-budget-gt999999 c = search rules
+
+pub returns-then-state-gt9999 : goal.returns-then-state-gt9999
+unfolding state_fits
+returns-then-state-gt9999 c = search rules
+
+pub returns-then-state-gt1 : goal.returns-then-state-gt1
+unfolding state_fits
+returns-then-state-gt1 c = search rules
+
+pub returns-then-is_owned : goal.returns-then-is_owned
+unfolding state_fits
+returns-then-is_owned c = search rules
+
+pub returns-else-is_owned : goal.returns-else-is_owned
+unfolding state_fits
+returns-else-is_owned c = search rules

@@ -11,15 +11,15 @@ returns-then-not-is_fit c =
     load_bad_drum (record { drum = a.drum.now; marks = a.marks.now; deck = a.deck.now; state = a.state; traced = a.traced })
     (sym c.is_fit.ensures ∙ not-true _ c.if-not-is_fit.true-raw)
 
-pub returns-in-Faulty : goal.returns-in-Faulty
-returns-in-Faulty c =
+pub returns-in-Err : goal.returns-in-Err
+returns-in-Err c =
     let a = c.args in
     load_bad_deck (record { drum = a.drum.now; marks = a.marks.now; deck = a.deck.now; state = a.state; traced = a.traced })
-    (sym c.is_fit.ensures ∙ not-false _ c.if-not-is_fit.false-raw) c.in-Faulty.f (sym c.check_deck-d.ensures ∙ c.in-Faulty.is)
+    (sym c.is_fit.ensures ∙ not-false _ c.if-not-is_fit.false-raw) c.in-Err.f (sym c.check_deck.ensures ∙ c.in-Err.is)
 
-pub returns-in-Good : goal.returns-in-Good
-returns-in-Good c =
+pub returns-in-Ok : goal.returns-in-Ok
+returns-in-Ok c =
     let a = c.args in
     load_done (record { drum = a.drum.now; marks = a.marks.now; deck = a.deck.now; state = a.state; traced = a.traced })
-    (sym c.is_fit.ensures ∙ not-false _ c.if-not-is_fit.false-raw) (sym c.check_deck-d.ensures ∙ c.in-Good.is)
-    c.store_cards.ensures c.keep.ensures c.begin-s.ensures
+    (sym c.is_fit.ensures ∙ not-false _ c.if-not-is_fit.false-raw) (sym c.check_deck.ensures ∙ c.in-Ok.is)
+    c.store_cards.ensures c.keep.ensures c.begin.ensures

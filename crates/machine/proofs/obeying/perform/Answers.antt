@@ -8,12 +8,12 @@ use Rattle.machine.proofs.obeying.perform.Goals as goal
 pub punch-requires : goal.punch-requires
 punch-requires c =
     let x = subst (λ (o : Operation). Allowed o c.args.a c.args.b c.args.c) c.in-Pch.is c.requires.order_allowed.2 in
-    record { fitting = c.requires.ready.1.fitting; block_fits = (x.0, x.1, c.requires.order_allowed.1, c.requires.ready.1.inside) }
+    record { located = c.requires.ready.1.located; block_fits = (x.0, x.1, c.requires.order_allowed.1, c.requires.ready.1.inside) }
 
 pub move_block-requires : goal.move_block-requires
 move_block-requires c =
     let x = subst (λ (o : Operation). Allowed o c.args.a c.args.b c.args.c) c.in-MoveBlock.is c.requires.order_allowed.2 in
-    (c.requires.ready.1.fitting, x.0, x.1)
+    (c.requires.ready.1.located, x.0, x.1)
 
 pub returns-in-Reckon : goal.returns-in-Reckon
 unfolding performed

@@ -12,7 +12,7 @@ loop-left-init c =
       room = c.requires.block_fits.2;
       low = c.requires.block_fits.0;
       inside = c.requires.block_fits.1;
-      fitting = c.requires.fitting;
+      located = c.requires.located;
       cards = c.args.n;
       enough = omega arith;
       sends = λ drum₀ out₀ m h. (m, h, refl);
@@ -20,7 +20,7 @@ loop-left-init c =
 
 pub loop-left-preserved : goal.loop-left-preserved
 loop-left-preserved c =
-    punching_more c.loop-left.invariant c.at_most_five-k.ensures c.punch_card.auto.out c.punch_card.ensures.0 c.punch_card.ensures.1
+    punching_more c.loop-left.invariant c.at_most_five-k.ensures c.punch_card.auto.out c.punch_card.ensures.0 c.punch_card.ensures.1 c.punch_card.ensures.2
 
 pub returns : goal.returns
 returns c = punching_end c.loop-left.invariant (omega arith) c.go_on.ensures

@@ -1,9 +1,10 @@
 -- `machine::reckoning::move_word`: the result is the word at b. Assumes nothing.
+use Rattle.std.proofs.Common.{Ok}
 use mathlib.Core.Path.{subst}
 use Prim.Native.Nat.{ℕ}
 use Rattle.rules.specs.Machine.{done, onward}
 use Rattle.rules.specs.Orders.{result_at}
-use Rattle.rules.specs.declared.Outcome.TheVariants.{GoesOn}
+use Rattle.rules.specs.declared.Done.TheVariants.{GoesOn}
 use Rattle.machine.specs.Lent.{Did}
 use Rattle.machine.proofs.Shown.{word_is}
 use Rattle.machine.proofs.reckoning.move_word.Goals as goal
@@ -15,5 +16,5 @@ pub returns : goal.returns
 returns c =
     λ drum₀ out₀ out m h.
     let r = c.store_result in
-    subst (λ (w : ℕ). Did drum₀ out₀ r.new.drum r.new.marks out r.new.row GoesOn (done (onward (result_at m c.args.c w))))
+    subst (λ (w : ℕ). Did drum₀ out₀ r.new.drum r.new.marks out r.new.desk (Ok GoesOn) (done (onward (result_at m c.args.c w))))
     (word_is h.memory c.args.b c.word-w.ensures) (r.ensures drum₀ out₀ out m h)

@@ -15,4 +15,4 @@ returns-in-StopTr c =
 pub returns-in-StTrEras : goal.returns-in-StTrEras
 returns-in-StTrEras c =
     λ drum₀ out₀ out m h.
-    rw c.in-StTrEras.is (erased_on h c.location-l.result c.location-l.ensures c.requires.located c.keep.ensures c.turn-in-StTrEras.ensures)
+    rw c.in-StTrEras.is (erased_on h c.requires c.keep.ensures c.turn-in-StTrEras.ensures)

@@ -1,13 +1,35 @@
 -- `machine::tracing::turn`: by the mode. Assumes nothing.
-use mathlib.Core.Path.{ap}
-use mathlib.Core.List.{List}
-use Prim.Native.Nat.{ℕ}
-use lib.ListN.{set}
+use Prim.Native.Nat.{◌+◌}
+use mathlib.Core.Path.{◌≡◌, refl, ap, ◌∙◌}
+use mathlib.Core.Bool.{Bool, true, false}
+use mir.Val.{bool_byte}
 use borrow.Author.Tests.{eq-eqb, ne_eqb}
+use Rattle.rules.specs.Words.{pick}
+use Rattle.rules.specs.Machine.{went_to, tracing_set}
+use Rattle.rules.specs.Orders.{tracing_to}
+use Rattle.rules.specs.declared.State.{State}
+use Rattle.machine.specs.declared.desk.Desk.{Desk}
 use Rattle.machine.proofs.tracing.turn.Goals as goal
+use Rattle.machine.proofs.tracing.turn.Goals.{After-go_on, then-desk-eq1, else-desk-eq1}
 
-pub returns-then-row-eq1 : goal.returns-then-row-eq1
-returns-then-row-eq1 c = simp (eq-eqb _ _ c.if-row-eq1.true) (ap (λ (r : List ℕ). set r 8 c.args.t) c.go_on.ensures)
+as_number : (t : Bool) → bool_byte t ≡ pick t 1 0
+as_number true = refl
+as_number false = refl
+
+turned : (c : After-go_on)
+    → (c.if-desk-eq1.desk.state ≡ tracing_to c.args.desk.now.state (pick c.args.on 1 0)) × (c.if-desk-eq1.desk.written ≡ c.args.desk.now.written)
+turned c =
+    let s : State = c.args.desk.now.state in
+    elim c.if-desk-eq1.branch [
+      | then-desk-eq1 w ↦ (
+        rw (eq-eqb s.mode 1 w.if-desk-eq1.true) (ap (λ (d : Desk). d.state) w.desk-is ∙ ap (tracing_set s) (w.from-desk.ensures ∙ as_number c.args.on)),
+        ap (λ (d : Desk). d.written) w.desk-is,
+      )
+      | else-desk-eq1 w ↦
+          (rw (ne_eqb s.mode 1 w.if-desk-eq1.false) (ap (λ (d : Desk). d.state) w.desk-is), ap (λ (d : Desk). d.written) w.desk-is)
+    ]
 
 pub returns : goal.returns
-returns c = simp (ne_eqb _ _ c.if-row-eq1.false) c.go_on-2.ensures
+returns c =
+    let t = turned c in
+    (c.go_on.ensures.0 ∙ ap (λ (s : State). went_to s (s.location + 1)) t.0, c.go_on.ensures.1 ∙ t.1)

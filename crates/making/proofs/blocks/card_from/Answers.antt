@@ -1,26 +1,22 @@
--- `making::card_from` meets its contract: before each turn the n cells from a on are marked. Assumes nothing.
-use mathlib.Core.Path.{sym, ◌∙◌}
-use mathlib.Core.List.{List}
+-- `making::card_from` meets its contract: what the chain gives is the start of a range, as far as its cells are marked. Assumes nothing.
+use Rattle.std.proofs.Common.{rules, tests, ◌+◌}
+use mathlib.Core.Path.{◌∙◌}
 use native.Mathlib.Omega.{arith}
-use borrow.Author.Tests.{not-true, not-false}
+use Rattle.std.specs.List.{range_with_len}
+use Rattle.std.proofs.lemmas.Iterator.{YieldsList-from_range}
+use Rattle.std.proofs.lemmas.Iterator.Consumers.{count_from_yields_List}
+use Rattle.std.proofs.lemmas.Iterator.Search.{YieldsList-from_take_while}
+use Rattle.std.proofs.lemmas.List.Folds.{length-prefix_len}
 use Rattle.rules.specs.Drum.{view}
-use Rattle.rules.specs.declared.Cell.{Cell}
-use Rattle.making.proofs.Ahead.{one_more, all_counted}
+use Rattle.rules.specs.Codes.{owned_at}
+use Rattle.making.proofs.Left.{as_prefix}
 use Rattle.making.proofs.blocks.card_from.Goals as goal
 
-pub loop-n-init : goal.loop-n-init
-loop-n-init c = (omega arith, λ x i l. let z : ⊥ = omega arith in absurd z)
-
-pub returns-then-not-is_owned : goal.returns-then-not-is_owned
-returns-then-not-is_owned c =
-    let few = c.loop-n.invariant.0 in
-    record { size = all_counted _ _ _ few c.loop-n.invariant.1 (λ l. sym c.is_owned.ensures ∙ not-true _ c.if-not-is_owned.true-raw); few = few }
-
-pub loop-n-preserved : goal.loop-n-preserved
-loop-n-preserved c =
-    let v : List Cell = view c.args.drum.now c.args.marks.now in
-    (omega arith, one_more v _ _ c.loop-n.invariant.1 (sym c.is_owned.ensures ∙ not-false _ c.if-not-is_owned.false-raw))
-
-pub returns : goal.returns
-returns c =
-    record { size = all_counted _ _ 5 (omega arith) (λ x i l. c.loop-n.invariant.1 x i (omega arith)) (λ l. let z : ⊥ = omega arith in absurd z); few = omega arith }
+pub returns-clause-size : goal.returns-clause-size
+returns-clause-size c =
+    let v = view c.args.drum.now c.args.marks.now in
+    let a = c.args.a in
+    count_from_yields_List c.take_while.result _ c.count.ensures.ran
+    (YieldsList-from_take_while _ (owned_at v) (YieldsList-from_range a (a + 5) 5 (cc) (omega arith)) c.take_while.ensures.closure
+    c.take_while.ensures.done (λ x b q k. search (rules, tests)))
+    ∙ length-prefix_len (owned_at v) (range_with_len a 5) ∙ as_prefix v a 5

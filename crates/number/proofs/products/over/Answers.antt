@@ -1,51 +1,44 @@
 -- `number::products::over` meets its contract: a quotient cut at its ninth digit or below has the halves that rounding asks for.
 -- Assumes nothing.
-use Prim.Native.Nat.{ℕ, ◌+◌, ◌*◌, ◌^◌, ◌<◌}
-use mathlib.Core.Path.{◌≡◌, refl, sym, ap, ◌∙◌}
-use mathlib.Core.Bool.{true}
+use Prim.Native.Nat.{ℕ, ◌+◌, ◌*◌, ◌^◌, ◌≤◌, ◌<◌}
+use mathlib.Core.Path.{refl, sym, ap, ◌∙◌}
 use native.Mathlib.Nat.{zero-mul}
 use native.Mathlib.Omega.{arith}
-use Rattle.rules.specs.Words.{is_number, leading_in, exponent_in}
+use Rattle.std.specs.Int.{from_bool}
 use Rattle.rules.specs.Rounding.{single, quotient_of}
 use Rattle.rules.specs.Arithmetic.{word_of}
 use Rattle.rules.proofs.Fractions.{none_halves}
 use Rattle.rules.proofs.Rounding.{settled_none}
-use Rattle.rules.proofs.Words.{Full, number_full}
+use Rattle.number.specs.declared.operands.Operand.{Operand}
 use Rattle.number.proofs.Sizes.{quotient_least, quotient_most, quotient_is}
 use Rattle.number.proofs.products.over.Goals as goal
 
-divisor : (b : ℕ) → is_number b ≡ true → 0 < b → Full b
-divisor b number some = number_full b number (λ z. omega arith)
+full : (x : Operand) → 0 < x.digits → 10000000 ≤ x.digits
+full x some = x.least (omega (arith, some))
 
-pub returns-then-a-eq0 : goal.returns-then-a-eq0
+pub returns-then-x-eq0 : goal.returns-then-x-eq0
 unfolding quotient_of
-returns-then-a-eq0 c =
+returns-then-x-eq0 c =
     let a = c.args in
-    let z : leading_in a.a ≡ 0 = omega (arith, c.if-a-eq0.true) in
-    sym (ap word_of (settled_none single a.s _ (none_halves _ _ (ap (λ (t : ℕ). t * 10 ^ (exponent_in a.a + 57 + 100)) z ∙ zero-mul _))))
-
-pub nonzero_div-m-2 : goal.nonzero_div-m-2
-nonzero_div-m-2 c = omega (arith, (divisor c.args.b c.requires.2 c.requires.3).leading)
+    sym (ap word_of (settled_none single (from_bool a.minus) _ (none_halves _ _ (ap (λ (t : ℕ). t * 10 ^ (a.x.exponent + 57 + 100)) c.if-x-eq0.true ∙ zero-mul _))))
 
 pub settle-requires : goal.settle-requires
 settle-requires c =
-    let a = c.args in
-    let p = c.requires in
-    let f : Full a.a = number_full a.a p.1 c.if-a-eq0.false in
-    let d : Full a.b = divisor a.b p.2 p.3 in
-    let m : ℕ = leading_in a.a in
-    let n : ℕ = leading_in a.b in
+    let x = c.args.x in
+    let y = c.args.y in
+    let f : 10000000 ≤ x.digits = full x (omega (arith, c.if-x-eq0.false)) in
+    let d : 10000000 ≤ y.digits = full y c.requires in
     record {
-      sign = p.0;
       unit = refl;
       start = omega arith;
-      place = omega arith;
-      full = omega (arith, quotient_least m n f.leading d.leading (omega arith));
-      few = omega (arith, quotient_most m n (omega arith) d.leading);
+      place = omega (arith, x.top);
+      full = omega (arith, quotient_least x.digits y.digits f d (omega (arith, y.most)));
+      few = omega (arith, quotient_most x.digits y.digits (omega (arith, x.most)) d);
     }
 
 pub returns : goal.returns
 unfolding quotient_of
 returns c =
-    let a = c.args in
-    c.settle.ensures _ (quotient_is (leading_in a.a) (leading_in a.b) (exponent_in a.a) (exponent_in a.b) (omega arith))
+    let x = c.args.x in
+    let y = c.args.y in
+    c.settle.ensures _ (quotient_is x.digits y.digits x.exponent y.exponent (omega (arith, y.top)))

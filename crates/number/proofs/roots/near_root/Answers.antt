@@ -3,7 +3,7 @@ use Prim.Native.Nat.{ℕ, ◌*◌, ◌/◌, ◌≤◌}
 use native.Mathlib.Omega.{arith}
 use Rattle.number.proofs.Guesses.{square, first, second, third, fourth, fifth, sixth}
 use Rattle.number.proofs.roots.near_root.Goals as goal
-use Rattle.number.proofs.roots.near_root.Goals.{After-nearer-f, After-left}
+use Rattle.number.proofs.roots.near_root.Goals.{After-nearer-f, After-saturating_sub}
 
 -- the first guess, before it is cut
 abbrev guess : After-nearer-f → ℕ
@@ -13,11 +13,11 @@ guess_fits : (c : After-nearer-f) → guess c ≤ 3281250000000000000
 guess_fits c = third c.args.m c.args.c c.requires.2 c.requires.3 c.inverse-y.result c.inverse-y.ensures c.nearer-f.result c.nearer-f.ensures
 
 -- what is added to it, before it is cut
-abbrev more : After-left → ℕ
-more c = c.left.result / 1048576 * (c.inverse-y.result * c.nearer-f.result / 1048576 * c.args.d / 1048576)
+abbrev more : After-saturating_sub → ℕ
+more c = c.saturating_sub.result / 1048576 * (c.inverse-y.result * c.nearer-f.result / 1048576 * c.args.d / 1048576)
 
-more_fits : (c : After-left) → more c ≤ 153000000000000000
-more_fits c = sixth c.inverse-y.result c.nearer-f.result c.inverse-y.ensures c.nearer-f.ensures c.args.d c.requires.4 c.left.result (omega (arith, c.left.ensures, c.requires.0))
+more_fits : (c : After-saturating_sub) → more c ≤ 153000000000000000
+more_fits c = sixth c.inverse-y.result c.nearer-f.result c.inverse-y.ensures c.nearer-f.ensures c.args.d c.requires.4 c.saturating_sub.result (omega (arith, c.saturating_sub.ensures, c.requires.0))
 
 pub overflow_mul-g : goal.overflow_mul-g
 overflow_mul-g c = omega (arith, first c.args.m c.args.c c.requires.2 c.requires.3)

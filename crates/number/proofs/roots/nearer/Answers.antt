@@ -3,10 +3,10 @@ use Prim.Native.Nat.{◌*◌, ◌≤◌}
 use native.Mathlib.Omega.{arith}
 use Rattle.number.proofs.Guesses.{square, times_once, times_twice}
 use Rattle.number.proofs.roots.nearer.Goals as goal
-use Rattle.number.proofs.roots.nearer.Goals.{After-left-t}
+use Rattle.number.proofs.roots.nearer.Goals.{After-saturating_sub-t}
 
-squared : (c : After-left-t) → c.left-t.result * c.left-t.result ≤ 12344000000000000
-squared c = omega (arith, square c.left-t.result 111100997 (omega (arith, c.left-t.ensures)))
+squared : (c : After-saturating_sub-t) → c.saturating_sub-t.result * c.saturating_sub-t.result ≤ 12344000000000000
+squared c = omega (arith, square c.saturating_sub-t.result 111100997 (omega (arith, c.saturating_sub-t.ensures)))
 
 pub overflow_mul-m : goal.overflow_mul-m
 overflow_mul-m c = omega (arith, times_once c.args.m c.args.y c.requires.0 c.requires.1)

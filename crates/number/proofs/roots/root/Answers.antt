@@ -1,11 +1,11 @@
 -- `number::roots::root` meets its contract: seven or eight places moved up leave an even power of ten. Assumes nothing.
+use Rattle.std.proofs.Common.{Ok}
 use Prim.Native.Nat.{ℕ, ◌+◌, ◌*◌, ◌/◌, ◌^◌, ◌<◌}
 use mathlib.Core.Path.{◌≡◌, refl, sym, ap, subst, ◌∙◌}
 use native.Mathlib.Omega.{arith}
 use Rattle.rules.specs.Words.{leading_in, exponent_in}
 use Rattle.rules.specs.Rounding.{single, settled, grown, root_below, root_halves, root_of}
 use Rattle.rules.specs.Arithmetic.{value_in, word_of}
-use Rattle.rules.specs.declared.Reckoned.TheVariants.{Result}
 use Rattle.rules.proofs.Words.{Full, number_full}
 use Rattle.number.proofs.Sizes.{moved}
 use Rattle.number.proofs.roots.root.Goals as goal
@@ -24,7 +24,7 @@ digits c = number_full c.args.b c.requires.0 c.if-b-eq0.false
 
 pub returns-then-b-eq0 : goal.returns-then-b-eq0
 unfolding root_of settled root_below grown
-returns-then-b-eq0 c = subst (λ (b : ℕ). Result 0 ≡ word_of (root_of single (value_in b))) (sym c.if-b-eq0.true) refl
+returns-then-b-eq0 c = subst (λ (b : ℕ). Ok 0 ≡ word_of (root_of single (value_in b))) (sym c.if-b-eq0.true) refl
 
 pub near_root-guess-requires : goal.near_root-guess-requires
 near_root-guess-requires c = omega (arith, (digits (goal.at.near_root-guess-requires c).Else-b-eq0).leading)

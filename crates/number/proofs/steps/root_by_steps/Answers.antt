@@ -1,4 +1,5 @@
 -- `number::steps::root_by_steps` meets its contract: seven or eight places moved up leave an even power of ten. Assumes nothing.
+use Rattle.std.proofs.Common.{Ok}
 use Prim.Native.Nat.{ℕ, zero, suc, ◌+◌, ◌-◌, ◌*◌, ◌/◌, ◌%◌, ◌^◌, ◌≤◌, ◌<◌}
 use mathlib.Core.Path.{◌≡◌, refl, sym, ap, subst, ◌∙◌}
 use mathlib.Core.Logic.{inl, inr}
@@ -8,7 +9,6 @@ use native.Mathlib.Omega.{arith}
 use Rattle.rules.specs.Words.{leading_in, exponent_in}
 use Rattle.rules.specs.Rounding.{single, settled, grown, root_below, root_halves, root_of}
 use Rattle.rules.specs.Arithmetic.{value_in, word_of}
-use Rattle.rules.specs.declared.Reckoned.TheVariants.{Result}
 use Rattle.rules.proofs.Roots.{no_larger}
 use Rattle.rules.proofs.Words.{Full, number_full}
 use Rattle.number.specs.Steps.{Chosen, OneMore}
@@ -81,7 +81,7 @@ least c = omega (arith, (digits c).leading)
 
 pub returns-then-b-eq0 : goal.returns-then-b-eq0
 unfolding root_of settled root_below grown
-returns-then-b-eq0 c = subst (λ (b : ℕ). Result 0 ≡ word_of (root_of single (value_in b))) (sym c.if-b-eq0.true) refl
+returns-then-b-eq0 c = subst (λ (b : ℕ). Ok 0 ≡ word_of (root_of single (value_in b))) (sym c.if-b-eq0.true) refl
 
 pub stepped-guess-requires : goal.stepped-guess-requires
 stepped-guess-requires c = (least (goal.at.stepped-guess-requires c).Else-b-eq0, c.requires.1, chosen c.args.b)

@@ -1,26 +1,24 @@
 -- `number::sum` meets its contract: the sign of the second number is its own. Assumes nothing.
 use mathlib.Core.Path.{◌∙◌}
-use native.Mathlib.Omega.{arith}
-use Rattle.rules.specs.Words.{both, is_number}
-use Rattle.rules.specs.Rounding.{sum_of}
-use Rattle.rules.specs.Arithmetic.{add_of}
-use Rattle.rules.proofs.Words.{number_word}
-use Rattle.number.proofs.Operands.{refused, accepted, numbers}
+use Rattle.rules.specs.Rounding.{Value, single, sum_of}
+use Rattle.rules.specs.Arithmetic.{word_of, add_of}
+use Rattle.number.proofs.Taken.{no_first, no_second, of_two, of_values}
 use Rattle.number.proofs.sums.sum.Goals as goal
 
-pub returns-then-not-both_numbers : goal.returns-then-not-both_numbers
-unfolding add_of sum_of
-returns-then-not-both_numbers c =
-    let a = c.args in
-    refused (both (is_number a.a) (is_number a.b)) c.both_numbers.ensures _ c.if-not-both_numbers.true
+pub returns-in_err-operand : goal.returns-in_err-operand
+unfolding add_of
+returns-in_err-operand c = no_first c.args.a _ c.args.b c.from_residual.result c.from_residual.ensures.1 c.in_err-operand.ensures
 
-pub plus-requires : goal.plus-requires
-plus-requires c =
-    let p = numbers c.args.a c.args.b c.both_numbers.ensures c.if-not-both_numbers.false in
-    (p.0, p.1, omega (arith, number_word c.args.b p.1))
+pub returns-in_err-operand-2 : goal.returns-in_err-operand-2
+unfolding add_of
+returns-in_err-operand-2 c =
+    no_second c.args.a _ c.args.b c.from_residual-in_err-operand-2.result c.from_residual-in_err-operand-2.ensures.1 c.in_ok-operand.ensures.0 c.in_err-operand-2.ensures
 
 pub returns : goal.returns
-unfolding add_of sum_of
+unfolding add_of
 returns c =
-    let a = c.args in
-    c.plus.ensures ∙ accepted (both (is_number a.a) (is_number a.b)) c.both_numbers.ensures _ c.if-not-both_numbers.false
+    let x = c.in_ok-operand.ensures in
+    let y = c.in_ok-operand-2.ensures in
+    c.plus.ensures
+    ∙ of_values _ _ _ _ x.1 y.1 (λ (u v : Value). word_of (sum_of single u v))
+    ∙ of_two c.args.a _ c.args.b x.0 y.0

@@ -1,11 +1,6 @@
--- `shows::cards::list_all` ends: it counts its turns down. Assumes nothing.
-use mathlib.Core.Path.{◌≡◌}
-use Prim.Native.Nat.{◌≤◌}
-use lib.ListN.{length}
+-- `shows::cards::list_all`: what is kept has room. Assumes nothing.
+use Rattle.std.proofs.Common.{◌≡◌, ◌≤◌, length}
 use Rattle.shows.proofs.cards.list_all.Given as goal
 
-abbrev pub invariant-loop-turns : goal.invariant-loop-turns
-invariant-loop-turns g l = (length l.room ≡ 65536) × (l.window.kept ≤ 65536)
-
-abbrev pub decreases-loop-turns : goal.decreases-loop-turns
-decreases-loop-turns g l = l.turns
+abbrev pub invariant-loop : goal.invariant-loop
+invariant-loop g l = (length l.room ≡ 65536) × (l.window.kept ≤ 65536)

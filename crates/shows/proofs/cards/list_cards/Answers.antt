@@ -2,17 +2,14 @@
 -- whole. Assumes nothing.
 use mathlib.Core.Path.{◌≡◌, refl, sym, ap, ◌∙◌}
 use mathlib.Core.List.{List}
-use mathlib.Core.Bool.{Bool, true, false, true≢false}
-use Prim.Native.Nat.{ℕ, ◌-◌, ◌≤◌, ◌<◌}
+use mathlib.Core.Bool.{true, false}
+use Prim.Native.Nat.{ℕ, ◌-◌, ◌<◌}
 use native.Mathlib.Omega.{arith}
 use lib.ListN.{length, get_or, take, drop, length-drop}
 use lib.Seq.{take_all}
 use borrow.Author.Rules.{rules}
 use Rattle.list.specs.Listing.{with_kind, is_second, size_of, size_met}
-use Rattle.list.specs.declared.ends.Seen.{Seen}
 use Rattle.says.proofs.Answers.{line_within}
-use Rattle.shows.specs.declared.cards.Passed.{Passed}
-use Rattle.shows.specs.declared.cards.Listed.{Listed}
 use Rattle.shows.proofs.Parts.{second_size, other_size_lem, ends_behind, ends_cut, ends_none, ends_short, goes_on}
 use Rattle.shows.proofs.cards.list_cards.Goals as goal
 use Rattle.shows.proofs.cards.list_cards.Goals.{After-write_lines-x}
@@ -21,15 +18,6 @@ use Rattle.shows.proofs.cards.list_cards.Given.{Over}
 -- what `&part[at..]` holds
 rest_is : (part : List ℕ) (at : ℕ) → take (length part - at) (drop at part) ≡ drop at part
 rest_is part at = take_all (length part - at) (drop at part) (omega (arith, length-drop at part))
-
--- an answer that is told up to a place
-within : {r : Listed} {sent : Bool} {at : ℕ} {s : Seen} {n : ℕ} → (r.sent ≡ sent) × (r.passed ≡ record { taken = at; seen = s }) → at ≤ n
-    → r.passed.taken ≤ n
-within u l = omega (arith, ap (λ (p : Passed). p.taken) u.1, l)
-
-told : {r : Listed} {sent : Bool} {at : ℕ} {s : Seen} {whole : Passed} → (r.sent ≡ sent) × (r.passed ≡ record { taken = at; seen = s })
-    → (sent ≡ true → record { taken = at; seen = s } ≡ whole) → r.sent ≡ true → r.passed ≡ whole
-told u f e = u.1 ∙ f (sym u.0 ∙ e)
 
 -- how many bytes the card takes
 size : (g : Over) (c : After-write_lines-x g)
@@ -47,7 +35,7 @@ loop-at-init g c = (length c.args.part.now, omega arith, omega arith, refl, refl
 pub returns-then-may_be_cut : goal.returns-then-may_be_cut
 returns-then-may_be_cut g c =
     let v = c.loop-at.invariant in
-    record { within = within c.upto.ensures v.2; listed = told c.upto.ensures (λ e. ends_cut c.args.part.now c.args.last c.loop-at.seen c.loop-at.at v.0 v.4 (sym c.may_be_cut.ensures ∙ c.if-may_be_cut.true)) }
+    record { within = v.2; listed = ends_cut c.args.part.now c.args.last c.loop-at.seen c.loop-at.at v.0 v.4 (sym c.may_be_cut.ensures ∙ c.if-may_be_cut.true) }
 
 pub returns-then-is_second : goal.returns-then-is_second
 returns-then-is_second g c =
@@ -56,24 +44,20 @@ returns-then-is_second g c =
     let at = c.loop-at.at in
     let s = c.loop-at.seen in
     let is : is_second s (drop at part) ≡ true = ap (is_second s) (sym (rest_is part at)) ∙ sym c.is_second.ensures ∙ c.if-is_second.true in
-    record { within = within c.upto-then-is_second.ensures v.2; listed = told c.upto-then-is_second.ensures (λ e. ends_none part c.args.last s at v.0 v.4 (second_size s (drop at part) is)) }
+    record { within = v.2; listed = ends_none part c.args.last s at v.0 v.4 (second_size s (drop at part) is) }
 
 pub returns-then-size-eq0 : goal.returns-then-size-eq0
 returns-then-size-eq0 g c =
     let v = c.loop-at.invariant in
-    record { within = within c.upto-then-size-eq0.ensures v.2; listed = told c.upto-then-size-eq0.ensures (λ e. ends_none c.args.part.now c.args.last c.loop-at.seen c.loop-at.at v.0 v.4 (sym (size g (goal.at.returns-then-size-eq0 g c).After-write_lines-x) ∙ c.if-size-eq0.true)) }
+    record { within = v.2; listed = ends_none c.args.part.now c.args.last c.loop-at.seen c.loop-at.at v.0 v.4 (sym (size g (goal.at.returns-then-size-eq0 g c).After-write_lines-x) ∙ c.if-size-eq0.true) }
 
 pub returns-then-left-size : goal.returns-then-left-size
 returns-then-left-size g c =
     let v = c.loop-at.invariant in
-    record { within = within c.upto-then-left-size.ensures v.2; listed = told c.upto-then-left-size.ensures (λ e. ends_short c.args.part.now c.args.last c.loop-at.seen c.loop-at.at v.0 v.4 (omega (arith, size g (goal.at.returns-then-left-size g c).After-write_lines-x, c.if-left-size.true))) }
+    record { within = v.2; listed = ends_short c.args.part.now c.args.last c.loop-at.seen c.loop-at.at v.0 v.4 (omega (arith, size g (goal.at.returns-then-left-size g c).After-write_lines-x, c.if-left-size.true)) }
 
 pub send_first-requires : goal.send_first-requires
 send_first-requires g c = line_within _ _ _ _ c.write_lines-x.ensures.shown
-
-pub returns-then-not-send_first : goal.returns-then-not-send_first
-returns-then-not-send_first g c =
-    record { within = within c.upto-then-not-send_first.ensures c.loop-at.invariant.2; listed = told c.upto-then-not-send_first.ensures (λ e. absurd (true≢false (sym e))) }
 
 pub loop-at-preserved : goal.loop-at-preserved
 loop-at-preserved g c =
@@ -95,4 +79,4 @@ loop-at-preserved g c =
 pub returns : goal.returns
 returns g c =
     let v = c.loop-at.invariant in
-    record { within = within c.upto-2.ensures v.2; listed = told c.upto-2.ensures (λ e. ends_behind c.args.part.now c.args.last c.loop-at.seen c.loop-at.at v.0 v.4 (omega arith)) }
+    record { within = v.2; listed = ends_behind c.args.part.now c.args.last c.loop-at.seen c.loop-at.at v.0 v.4 (omega arith) }

@@ -1,11 +1,11 @@
 -- `shows::cards::move_down` meets its contract. The loop's invariant: the bytes passed stand at the start, and all behind them is as it
 -- was, so that the byte to move is still the old one. Assumes nothing.
-use mathlib.Core.Path.{◌≡◌, refl, sym, ap, ◌∙◌}
+use mathlib.Core.Path.{◌≡◌, sym, ap, ◌∙◌}
 use mathlib.Core.List.{List}
 use Prim.Native.Nat.{ℕ, ◌+◌, ◌-◌, ◌≤◌, ◌<◌}
 use native.Mathlib.Nat.{zero-add}
 use native.Mathlib.Omega.{arith}
-use lib.ListN.{length, get_or, drop, set, length-set, length-drop}
+use lib.ListN.{length, get_or, drop, set, length-drop}
 use lib.Seq.{paste, paste-zero, drop-paste, get_or-drop}
 use Rattle.octets.proofs.Copies.{copy_more}
 use Rattle.shows.proofs.cards.move_down.Goals as goal
@@ -33,19 +33,16 @@ moved old room from i l h e =
     ∙ copy_more old (drop from old) 0 i e (get_or room (from + i) 0) (kept old room from i (omega arith) e) (omega arith) l
 
 pub loop-i-init : goal.loop-i-init
-loop-i-init c = (omega arith, refl, paste-zero c.args.room.now 0 (drop c.args.from c.args.room.now))
+loop-i-init c = paste-zero c.args.room.now 0 (drop c.args.from c.args.room.now)
 
 pub loop-i-preserved : goal.loop-i-preserved
 loop-i-preserved c =
     let old = c.args.room.now in
-    let l : c.loop-i.i < length (drop c.args.from old) = omega (arith, length-drop c.args.from old, c.requires) in (
-      omega arith,
-      simp length-set c.loop-i.invariant.1,
-      moved old c.loop-i.room c.args.from c.loop-i.i l (omega (arith, c.requires)) c.loop-i.invariant.2,
-    )
+    let l : c.loop-i.i < length (drop c.args.from old) = omega (arith, length-drop c.args.from old, c.requires) in
+    moved old c.loop-i.room c.args.from c.loop-i.i l (omega (arith, c.requires)) c.loop-i.invariant
 
 pub returns : goal.returns
 returns c =
     let old = c.args.room.now in
-    let e : c.loop-i.i ≡ c.args.to - c.args.from = omega (arith, c.loop-i.invariant.0) in
-    c.loop-i.invariant.2 ∙ ap (λ (k : ℕ). paste old 0 (drop c.args.from old) k) e
+    let e : c.loop-i.i ≡ c.args.to - c.args.from = omega arith in
+    c.loop-i.invariant ∙ ap (λ (k : ℕ). paste old 0 (drop c.args.from old) k) e
