@@ -99,7 +99,7 @@ const ST_TR_ERAS: Row = Row(452, Trace(StTrEras), Free, *b"ST TR ERAS");
 const NOOP: Row = Row(454, Go(Noop), Free, *b"NOOP      ");
 
 // The row with this number, counted from 0: the table. The rows are named here and stand in no array. As one static array, looked up by `get`
-// and `find`, it was proved, and missed the bar of bench/run: transfers took 108 instructions an order and not 89, 1.27 times plain C's.
+// and `find`, it was proved, and missed the bar of bench/run: transfers took 108 instructions an order, 1.27 times plain C's.
 fn row_at(i: usize) -> Row
     requires { i < 40 }
     ensures { (result.0 ≡ code_at i codes) × (Some (result.1, result.2) ≡ row_built i codes) × (result.3 ≡ name_at i codes) }

@@ -1,4 +1,4 @@
--- Check 10, cell by cell: what is left to check comes to what the whole does. Assumes nothing.
+-- Check 10, cell by cell: that each cell fits is what the whole asks. Assumes nothing.
 use mathlib.Core.Path.{◌≡◌, refl, sym, ap, ap₂, ◌∙◌}
 use mathlib.Core.List.{List, [], ◌∷◌}
 use mathlib.Core.Bool.{Bool, true, false, ◌&&◌}

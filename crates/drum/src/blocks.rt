@@ -25,7 +25,10 @@ fn word_within(drum: &[u64], marks: &[u8], b: usize, n: usize, i: usize) -> u64
     crate::word(drum, marks, b.saturating_add(i))
 }
 
-// The first five words of the n cells from b on, with zeros behind the last: as many as a card can have.
+// The first five words of the n cells from b on, with zeros behind the last: as many as a card can have. It is rarely asked for, and that
+// is told here and at `store_cards` of machine: without, orders of the bench were five to twelve instructions longer.
+#[cold]
+#[inline(never)]
 pub fn first_words(drum: &[u64], marks: &[u8], b: usize, n: usize) -> [u64; 5]
     ensures { result ≡ first_words (view drum.now marks.now) b n }
 {

@@ -29,7 +29,7 @@ pub reading_begins : (text cells : List ℕ) → Reading (length cells) text cel
 unfolding numbers_in
 reading_begins text cells = record { whole = refl; few = omega arith; far = omega arith; same = refl }
 
--- a number that ends is the next cell, and counted even where there is None
+-- a number that ends is the next cell, and counted even where there is none
 length-ended : (cells : List ℕ) (n : ℕ) (begun : Bool) (x : ℕ) → n ≤ length cells → length (ended (take n cells) begun x) ≡ pick begun (n + 1) n
 length-ended cells n true x h = length-append (take n cells) (x ∷ []) ∙ omega (arith, length-take-le n cells h)
 length-ended cells n false x h = length-take-le n cells h

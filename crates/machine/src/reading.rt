@@ -24,7 +24,9 @@ fn store_words(drum: &mut [u64], marks: &mut [u8], d: &[u8], location: usize, wo
 }
 
 // The data cards from a place of the deck on that begin before another are stored, in order. A `for` is no plainer: the card that a turn
-// stores says how far the next one is.
+// stores says how far the next one is. That it is rare is told as at drum's `first_words`.
+#[cold]
+#[inline(never)]
 pub fn store_cards(drum: &mut [u64], marks: &mut [u8], deck: &[u8], from: usize, end: usize)
     ensures { Keeps drum.old marks.old drum.new marks.new
         (cards_stored end (data_from deck.now from)) }

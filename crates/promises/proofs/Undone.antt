@@ -66,7 +66,6 @@ refusal_undone i m r e =
 
 -- ---- calls
 
--- two different constructors
 module _ (c : LoadCall) (b : Bar) where
   load_barred : (k : Deck) → (loaded_from c k).loading ≡ Err b → loaded_from c k ≡ not_loaded c b
   unfolding loaded_from
