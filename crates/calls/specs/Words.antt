@@ -123,16 +123,17 @@ asked_by w =
 abbrev pub takes_none : Options
 takes_none = record { traced = Never; stop = Never; budget = Never; first = Never; problem = Never }
 
--- make must be told a first order, and may be told a problem number
-abbrev pub form_of : Command → Options
-form_of Session = record takes_none { traced = Open; stop = Open; budget = Open }
-form_of New = takes_none
-form_of Load = record takes_none { traced = Open }
-form_of Run = record takes_none { stop = Open; budget = Open }
-form_of Deck = takes_none
-form_of ListCards = takes_none
-form_of Cells = takes_none
-form_of Make = record takes_none { first = Due; problem = Open }
+-- make must be told a first order, and may be told a problem number; where the word names no command, none of these may come
+abbrev pub form_of : Option Command → Options
+form_of (Some Session) = record takes_none { traced = Open; stop = Open; budget = Open }
+form_of (Some New) = takes_none
+form_of (Some Load) = record takes_none { traced = Open }
+form_of (Some Run) = record takes_none { stop = Open; budget = Open }
+form_of (Some Deck) = takes_none
+form_of (Some ListCards) = takes_none
+form_of (Some Cells) = takes_none
+form_of (Some Make) = record takes_none { first = Due; problem = Open }
+form_of None = takes_none
 
 -- the turn of a word that comes with this value: it may come now, or that is wrong
 abbrev pub given : {A : Type 0} → Turn A → A → Result (Turn A) Trouble
@@ -146,21 +147,24 @@ abbrev pub where_given : {A : Type 0} → (Turn A → Options) → Result (Turn 
 where_given f (Ok t) = Ok (f t)
 where_given f (Err e) = Err e
 
--- what a call asks for with one word more, or what is wrong with that word
-abbrev pub with_next : Options → Asked → Result Options Trouble
-with_next o Traced = where_given (λ t. record o { traced = t }) (given o.traced tt)
-with_next o Stop = where_given (λ t. record o { stop = t }) (given o.stop tt)
-with_next o (Budget n) = where_given (λ t. record o { budget = t }) (given o.budget n)
-with_next o (First n) = where_given (λ t. record o { first = t }) (given o.first n)
-with_next o (Problem n) = where_given (λ t. record o { problem = t }) (given o.problem n)
+-- what a call asks for with a word more that asks for this, or what is wrong with that word
+abbrev pub with_asked : Options → Asked → Result Options Trouble
+with_asked o Traced = where_given (λ t. record o { traced = t }) (given o.traced tt)
+with_asked o Stop = where_given (λ t. record o { stop = t }) (given o.stop tt)
+with_asked o (Budget n) = where_given (λ t. record o { budget = t }) (given o.budget n)
+with_asked o (First n) = where_given (λ t. record o { first = t }) (given o.first n)
+with_asked o (Problem n) = where_given (λ t. record o { problem = t }) (given o.problem n)
+
+-- The same of any word. A word that is wrong spoils the call, and so a call that is spoilt takes no word more.
+abbrev pub with_next : Option Options → Result Asked Trouble → Result Options Trouble
+with_next (Some o) (Ok x) = with_asked o x
+with_next (Some o) (Err e) = Err e
+with_next None (Ok x) = Err Stray
+with_next None (Err e) = Err e
 
 -- the same of a word by its bytes
-abbrev pub next_asked : Options → Result Asked Trouble → Result Options Trouble
-next_asked o (Ok x) = with_next o x
-next_asked o (Err e) = Err e
-
 abbrev pub with_word : Options → List ℕ → Result Options Trouble
-with_word o w = next_asked o (asked_by w)
+with_word o w = with_next (Some o) (asked_by w)
 
 -- whether a word came
 abbrev pub is_given : {A : Type 0} → Turn A → Bool
@@ -187,23 +191,24 @@ is_due (Given x) = false
 abbrev pub behind_new : ℕ → ℕ
 behind_new count = pick (ltb 3 count) 4 3
 
-abbrev pub behind_names : Command → ℕ → ℕ
-behind_names Session count = 3
-behind_names New count = behind_new count
-behind_names Load count = 4
-behind_names Run count = 4
-behind_names Deck count = 3
-behind_names ListCards count = 3
-behind_names Cells count = 3
-behind_names Make count = 3
+abbrev pub behind_names : Option Command → ℕ → ℕ
+behind_names (Some Session) count = 3
+behind_names (Some New) count = behind_new count
+behind_names (Some Load) count = 4
+behind_names (Some Run) count = 4
+behind_names (Some Deck) count = 3
+behind_names (Some ListCards) count = 3
+behind_names (Some Cells) count = 3
+behind_names (Some Make) count = 3
+behind_names None count = 3
 
 -- ---- what a call asks for
 
 -- in a call of so many words, before the first of them behind the names: not to be obeyed where a name is missing
-abbrev pub is_missing : Command → ℕ → Bool
+abbrev pub is_missing : Option Command → ℕ → Bool
 is_missing c count = ltb count (behind_names c count)
 
-abbrev pub start_of : Command → ℕ → Option Options
+abbrev pub start_of : Option Command → ℕ → Option Options
 start_of c count = pick (is_missing c count) None (Some (form_of c))
 
 -- with words more, one after another, each by its bytes: a word that is wrong spoils the call, and there is nothing that it asks for
@@ -218,17 +223,19 @@ pub record Read (form : Option Options) (from count : ℕ) (r : Option Options) 
   pub no_more : length words ≤ count - from
   pub no_fewer : IsSome r → length words ≡ count - from
 
--- after the last word: a call that has all but a first order, which is due, lacks that, and is not to be obeyed
-abbrev pub lacks_first : Options → Bool
-lacks_first o = is_due o.first
+-- After the last word: a call that has all but a first order, which is due, lacks that, and is not to be obeyed. One that is spoilt lacks
+-- nothing, and stays so.
+abbrev pub lacks_first : Option Options → Bool
+lacks_first (Some o) = is_due o.first
+lacks_first None = false
 
-abbrev pub at_end : Options → Option Options
-at_end o = pick (lacks_first o) None (Some o)
+abbrev pub at_end : Option Options → Option Options
+at_end o = pick (lacks_first o) None o
 
 pub record ReadToEnd (c : Command) (count : ℕ) (r : Option Options) : Type 0 where
   pub before : Option Options
-  pub read : Read (start_of c count) (behind_names c count) count before
-  pub ended : r ≡ option_and_then at_end before
+  pub read : Read (start_of (Some c) count) (behind_names (Some c) count) count before
+  pub ended : r ≡ at_end before
 
 -- whether the load is a traced one, and the console's switches
 abbrev pub is_traced : Options → Bool

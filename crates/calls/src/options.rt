@@ -1,6 +1,6 @@
 // What a call asks for beside its files: which words its command takes, and what those that came say.
 ghost use Rattle.std.specs.Prelude.{◌≡◌};
-ghost use Rattle.calls.specs.Words.{takes_none, form_of, given, is_given, given_or, with_next, with_word, start_of, lacks_first, at_end};
+ghost use Rattle.calls.specs.Words.{takes_none, form_of, given, is_given, given_or, with_asked, with_next, with_word, start_of, lacks_first, at_end};
 ghost use Rattle.calls.specs.Words.{is_traced, switches_of, budget_of, first_of, problem_of};
 
 use crate::words::{Asked, Command, Trouble, asked_by, behind_names};
@@ -69,44 +69,44 @@ fn takes_none() -> Options
 }
 
 // What a command takes. The one that makes a deck must be told a first order, and may be told a problem number.
-fn form_of(command: Command) -> Options
+fn form_of(command: Option<Command>) -> Options
     ensures { result ≡ form_of command }
 {
     match command {
-        Command::Session => Options {
+        Some(Command::Session) => Options {
             traced: Turn::Open,
             stop: Turn::Open,
             budget: Turn::Open,
             ..takes_none()
         },
-        Command::Load => Options {
+        Some(Command::Load) => Options {
             traced: Turn::Open,
             ..takes_none()
         },
-        Command::Run => Options {
+        Some(Command::Run) => Options {
             stop: Turn::Open,
             budget: Turn::Open,
             ..takes_none()
         },
-        Command::Make => Options {
+        Some(Command::Make) => Options {
             first: Turn::Due,
             problem: Turn::Open,
             ..takes_none()
         },
-        Command::New | Command::Deck | Command::List | Command::Cells => takes_none(),
+        Some(Command::New | Command::Deck | Command::List | Command::Cells) | None => takes_none(),
     }
 }
 
 // What a call of so many words asks for, before the first word behind the names. Where a name is missing it is not to be obeyed.
-pub fn start_of(command: Command, count: usize) -> Option<Options>
+pub fn start_of(command: Option<Command>, count: usize) -> Option<Options>
     ensures { result ≡ start_of command count }
 {
     (behind_names(command, count) <= count).then_some(form_of(command))
 }
 
-// What a call asks for with one word more, or what is wrong with the word, after those before it.
-pub fn with_next(options: Options, asked: Asked) -> Result<Options, Trouble>
-    ensures { result ≡ with_next options asked }
+// What a call asks for with a word more that asks for this, or what is wrong with the word, after those before it.
+fn with_asked(options: Options, asked: Asked) -> Result<Options, Trouble>
+    ensures { result ≡ with_asked options asked }
 {
     Ok(match asked {
         Asked::Traced => Options {
@@ -132,25 +132,37 @@ pub fn with_next(options: Options, asked: Asked) -> Result<Options, Trouble>
     })
 }
 
+// The same of any word, right or wrong, and of any call: one that is not to be obeyed takes no word more.
+pub fn with_next(
+    options: Option<Options>,
+    asked: Result<Asked, Trouble>,
+) -> Result<Options, Trouble>
+    ensures { result ≡ with_next options asked }
+{
+    let asked = asked?;
+    let options = options.ok_or(Trouble::Stray)?;
+    with_asked(options, asked)
+}
+
 // The same of a word by its bytes.
 pub fn with_word(options: Options, word: &[u8]) -> Result<Options, Trouble>
     ensures { result ≡ with_word options word.now }
 {
-    with_next(options, asked_by(word)?)
+    with_next(Some(options), asked_by(word))
 }
 
 // Whether a first order is all that a call lacks, after its last word.
-pub fn lacks_first(options: Options) -> bool
+pub fn lacks_first(options: Option<Options>) -> bool
     ensures { result ≡ lacks_first options }
 {
-    matches!(options.first, Turn::Due)
+    options.is_some_and(|options| matches!(options.first, Turn::Due))
 }
 
 // What a call asks for, after its last word. One that lacks a first order is not to be obeyed.
-pub fn at_end(options: Options) -> Option<Options>
+pub fn at_end(options: Option<Options>) -> Option<Options>
     ensures { result ≡ at_end options }
 {
-    (!lacks_first(options)).then_some(options)
+    if lacks_first(options) { None } else { options }
 }
 
 // Whether the load is to be a traced one.

@@ -68,13 +68,14 @@ pub fn command_of(word: &[u8]) -> Option<Command>
     None
 }
 
-// Where the words behind the names begin, in a call of so many words. The second name of new may be left out.
-pub fn behind_names(command: Command, count: usize) -> usize
+// Where the words behind the names begin, in a call of so many words, of a command or of a word that names none. The second name of new may
+// be left out.
+pub fn behind_names(command: Option<Command>, count: usize) -> usize
     ensures { result ≡ behind_names command count }
 {
     match command {
-        Command::New if 3 < count => 4,
-        Command::Load | Command::Run => 4,
+        Some(Command::New) if 3 < count => 4,
+        Some(Command::Load | Command::Run) => 4,
         _ => 3,
     }
 }

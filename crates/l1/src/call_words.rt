@@ -39,7 +39,7 @@ fn take(texts: &impl Print, options: Options, word: &[u8]) -> Option<Options>
     match with_word(options, word) {
         Ok(more) => Some(more),
         Err(trouble) => {
-            says::refused(texts, word, trouble);
+            says::refused(texts, word, Some(trouble));
             None
         }
     }
@@ -82,15 +82,15 @@ pub fn options_of(rt: &impl Env, texts: &impl Print, command: Command) -> Option
     ensures { (count : ℕ) × ReadToEnd command count result }
 {
     let count = word_count(rt);
-    let Some(form) = start_of(command, count) else {
+    let Some(form) = start_of(Some(command), count) else {
         says::missing(texts);
         return None;
     };
-    let options = take_words(rt, texts, form, behind_names(command, count), count)?;
-    if lacks_first(options) {
+    let options = take_words(rt, texts, form, behind_names(Some(command), count), count)?;
+    if lacks_first(Some(options)) {
         says::no_first(texts);
     }
-    at_end(options)
+    at_end(Some(options))
 }
 
 // The system's numbers of two errors: that an argument is none, and that the name of a file is too long.

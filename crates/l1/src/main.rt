@@ -50,7 +50,7 @@ fn call(rt: &(impl Files + Env + Print + RandomSource), texts: &impl Print) {
     };
     match options_of(rt, texts, command) {
         Some(options) => obey(rt, texts, command, options),
-        None => says::usage(texts, command),
+        None => says::usage(texts, Some(command)),
     }
 }
 

@@ -97,20 +97,21 @@ pub fn unknown(texts: &impl Print, word: &[u8], count: usize) {
     help(texts);
 }
 
-// How a command is called.
-pub fn usage(texts: &impl Print, command: Command) {
+// How a command is called; where a word names none, how all are.
+pub fn usage(texts: &impl Print, command: Option<Command>) {
     match command {
-        Command::Session => say(
+        Some(Command::Session) => say(
             texts,
             b"usage: l1 session DECK [traced] [stop] [budget=N]\n",
         ),
-        Command::New => say(texts, b"usage: l1 new MACHINE [CELLS]\n"),
-        Command::Load => say(texts, b"usage: l1 load MACHINE DECK [traced]\n"),
-        Command::Run => say(texts, b"usage: l1 run MACHINE DECK [stop] [budget=N]\n"),
-        Command::Deck => say(texts, b"usage: l1 deck DECK\n"),
-        Command::List => say(texts, b"usage: l1 list FILE\n"),
-        Command::Cells => say(texts, b"usage: l1 cells MACHINE\n"),
-        Command::Make => say(texts, b"usage: l1 make MACHINE first=N [problem=N]\n"),
+        Some(Command::New) => say(texts, b"usage: l1 new MACHINE [CELLS]\n"),
+        Some(Command::Load) => say(texts, b"usage: l1 load MACHINE DECK [traced]\n"),
+        Some(Command::Run) => say(texts, b"usage: l1 run MACHINE DECK [stop] [budget=N]\n"),
+        Some(Command::Deck) => say(texts, b"usage: l1 deck DECK\n"),
+        Some(Command::List) => say(texts, b"usage: l1 list FILE\n"),
+        Some(Command::Cells) => say(texts, b"usage: l1 cells MACHINE\n"),
+        Some(Command::Make) => say(texts, b"usage: l1 make MACHINE first=N [problem=N]\n"),
+        None => help(texts),
     }
 }
 
@@ -123,12 +124,13 @@ pub fn failed(texts: &impl Print, what: &[u8], why: &io::Error) {
     say(texts, b"\n");
 }
 
-// A word of the call, and what is wrong with it. The word's bytes need not be text, so no Display writes them.
-pub fn refused(texts: &impl Print, word: &[u8], trouble: Trouble) {
+// A word of the call, and what is wrong with it, if anything is. The word's bytes need not be text, so no Display writes them.
+pub fn refused(texts: &impl Print, word: &[u8], trouble: Option<Trouble>) {
     match trouble {
-        Trouble::Stray => say_of(texts, word, b": no word for this command\n"),
-        Trouble::Twice => say_of(texts, word, b": given twice\n"),
-        Trouble::NotNumber => say_of(texts, word, b": no decimal number\n"),
+        Some(Trouble::Stray) => say_of(texts, word, b": no word for this command\n"),
+        Some(Trouble::Twice) => say_of(texts, word, b": given twice\n"),
+        Some(Trouble::NotNumber) => say_of(texts, word, b": no decimal number\n"),
+        None => say_of(texts, word, b"\n"),
     }
 }
 

@@ -3,7 +3,7 @@
 use Prim.Native.Nat.{ℕ}
 use mathlib.Core.Path.{◌≡◌, refl, sym, subst, ◌∙◌}
 use native.Mathlib.Omega.{arith}
-use Rattle.std.specs.Prelude.{Option, Some, None, option_and_then}
+use Rattle.std.specs.Prelude.{Option, Some, None}
 use Rattle.std.proofs.lemmas.Bool.{false≢true}
 use Rattle.calls.specs.Words.{start_of, behind_names, at_end, Read, ReadToEnd}
 use Rattle.calls.specs.declared.words.Command.{Command}
@@ -12,19 +12,19 @@ use Rattle.calls.proofs.Taken.{take_none, read_as_taken}
 use Rattle.l1.proofs.call_words.options_of.Goals as goal
 
 -- s is what the call asks for before its words, a where they begin
-to_end : {s f before r : Option Options} {a : ℕ} (c : Command) (n : ℕ) → s ≡ start_of c n → s ≡ f → a ≡ behind_names c n → Read f a n before
-    → r ≡ option_and_then at_end before → ReadToEnd c n r
+to_end : {s f before r : Option Options} {a : ℕ} (c : Command) (n : ℕ) → s ≡ start_of (Some c) n → s ≡ f → a ≡ behind_names (Some c) n → Read f a n before
+    → r ≡ at_end before → ReadToEnd c n r
 to_end {s} {f} {before} {r} {a} c n p o q t e =
     record {
       before = before;
-      read = subst (λ (x : ℕ). Read (start_of c n) x n before) q (subst (λ (x : Option Options). Read x a n before) (sym o ∙ p) t);
+      read = subst (λ (x : ℕ). Read (start_of (Some c) n) x n before) q (subst (λ (x : Option Options). Read x a n before) (sym o ∙ p) t);
       ended = e;
     }
 
 -- a name is missing: no word is read
-missing : {s : Option Options} (c : Command) (n : ℕ) → s ≡ start_of c n → s ≡ None → ReadToEnd c n None
+missing : {s : Option Options} (c : Command) (n : ℕ) → s ≡ start_of (Some c) n → s ≡ None → ReadToEnd c n None
 missing c n p o =
-    to_end c n p o refl (read_as_taken n (take_none None (behind_names c n)) (omega arith) (λ e. absurd (false≢true e))) refl
+    to_end c n p o refl (read_as_taken n (take_none None (behind_names (Some c) n)) (omega arith) (λ e. absurd (false≢true e))) refl
 
 pub returns-in_default : goal.returns-in_default
 returns-in_default g c =
