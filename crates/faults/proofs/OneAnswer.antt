@@ -3,11 +3,13 @@
 use mathlib.Core.Path.{◌≡◌, sym, ◌∙◌}
 use mathlib.Core.List.{List}
 use Prim.Native.Nat.{ℕ}
-use Rattle.rules.proofs.Agreed.{OneResult}
+use Rattle.rules.proofs.Agreed.{Agrees, OneResult}
 use Rattle.faults.proofs.counts.sum.Kinds as sum-kinds
 use Rattle.faults.proofs.counts.sum.Reads as sum
 use Rattle.faults.proofs.lines.empty.Kinds as empty-kinds
 use Rattle.faults.proofs.lines.empty.Reads as empty
+use Rattle.faults.proofs.lines.Line.text.Kinds as text-kinds
+use Rattle.faults.proofs.lines.Line.text.Reads as text
 use Rattle.faults.proofs.sentences.of_card.Kinds as of-card-kinds
 use Rattle.faults.proofs.sentences.of_card.Reads as of-card
 use Rattle.faults.proofs.sentences.of_deck.Kinds as of-deck-kinds
@@ -38,3 +40,7 @@ one_empty κs a x y s t p q = same_line p q
 
 pub one_sum : OneResult 0 sum-kinds.ps sum-kinds.r sum.Post
 one_sum κs a x y s t p q = p ∙ sym q
+
+-- the bytes that it lends
+pub one_text : Agrees 1 text-kinds.ps text-kinds.r text.Post (λ κs x y s t. x.now ≡ y.now)
+one_text κs a x y s t p q = p ∙ sym q

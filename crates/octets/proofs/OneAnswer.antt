@@ -1,6 +1,9 @@
 -- Each public function has one answer: two that its contract allows for the same arguments are equal, and so is all that they leave in
 -- what was lent. `Post` is the contract of a function, as it stands at the function. Assumes nothing.
+use Prim.Native.Nat.{ℕ}
 use mathlib.Core.Path.{◌≡◌, sym, ◌∙◌}
+use mir.Syntax.{w64}
+use mir.Val.{Fits}
 use Rattle.rules.proofs.Agreed.{Agrees, OneResult}
 use Rattle.octets.proofs.fields.put_field.Kinds as put-field-kinds
 use Rattle.octets.proofs.fields.put_field.Reads as put-field
@@ -22,6 +25,8 @@ use Rattle.octets.proofs.reads.number_in.Kinds as number-in-kinds
 use Rattle.octets.proofs.reads.number_in.Reads as number_in
 use Rattle.octets.proofs.reads.with_digit.Kinds as with-digit-kinds
 use Rattle.octets.proofs.reads.with_digit.Reads as with-digit
+use Rattle.octets.proofs.rooms.room.Kinds as room-kinds
+use Rattle.octets.proofs.rooms.room.Reads as room
 
 pub one_byte_put : Agrees 1 put-byte-kinds.ps put-byte-kinds.r put_byte.Post (λ κs x y s t. s.0.now ≡ t.0.now)
 one_byte_put κs a x y s t p q = p ∙ sym q
@@ -52,3 +57,6 @@ one_number κs a x y s t p q = p.0 ∙ sym q.0
 
 pub one_longer : OneResult 0 with-digit-kinds.ps with-digit-kinds.r with-digit.Post
 one_longer κs a x y s t p q = p ∙ sym q
+
+pub one_room : (n : ℕ) (f : Fits w64 n) → OneResult 1 (room-kinds.ps n f) (room-kinds.r n f) (room.Post n f)
+one_room n f κs a x y s t p q = p.0 ∙ sym q.0

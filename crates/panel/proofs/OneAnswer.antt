@@ -1,7 +1,17 @@
--- Each exported function has one answer: two that its contract allows for the same arguments are equal, and so is all that they leave in
--- what was lent. `Post` is the contract of a function, as it stands at the function. Assumes nothing.
+-- Each exported function, and each impl that tells an answer, has one answer: two that its contract allows for the same arguments are equal,
+-- and so is all that they leave in what was lent. `Post` is the contract of a function, as it stands at the function. Assumes nothing.
 use mathlib.Core.Path.{◌≡◌, sym, ◌∙◌}
 use Rattle.rules.proofs.Agreed.{Agrees, OneResult}
+use Rattle.panel.proofs.WordFromReckoned.from.Kinds as word-told-kinds
+use Rattle.panel.proofs.WordFromReckoned.from.Reads as word-told
+use Rattle.panel.proofs.SummedFromSum.from.Kinds as summed-told-kinds
+use Rattle.panel.proofs.SummedFromSum.from.Reads as summed-told
+use Rattle.panel.proofs.PlaceFromDeck.from.Kinds as check-told-kinds
+use Rattle.panel.proofs.PlaceFromDeck.from.Reads as check-told
+use Rattle.panel.proofs.calls.PlaceFromLoading.from.Kinds as loading-told-kinds
+use Rattle.panel.proofs.calls.PlaceFromLoading.from.Reads as loading-told
+use Rattle.panel.proofs.calls.MadeFromMaking.from.Kinds as making-told-kinds
+use Rattle.panel.proofs.calls.MadeFromMaking.from.Reads as making-told
 use Rattle.panel.proofs.l1_add.Kinds as add-kinds
 use Rattle.panel.proofs.l1_add.Reads as add
 use Rattle.panel.proofs.l1_sub.Kinds as sub-kinds
@@ -73,3 +83,18 @@ one_run κs a x y s t p q = (
 -- the output stands at the third place
 pub one_make : Agrees 3 make-kinds.ps make-kinds.r make.Post (λ κs x y s t. (x ≡ y) × (s.1.1.0.now ≡ t.1.1.0.now))
 one_make κs a x y s t p q = (p.told_is ∙ sym q.told_is, p.out_is ∙ sym q.out_is)
+
+pub one_word_told : OneResult 0 word-told-kinds.ps word-told-kinds.r word-told.Post
+one_word_told κs a x y s t p q = p ∙ sym q
+
+pub one_summed_told : OneResult 0 summed-told-kinds.ps summed-told-kinds.r summed-told.Post
+one_summed_told κs a x y s t p q = p ∙ sym q
+
+pub one_check_told : OneResult 0 check-told-kinds.ps check-told-kinds.r check-told.Post
+one_check_told κs a x y s t p q = p ∙ sym q
+
+pub one_loading_told : OneResult 0 loading-told-kinds.ps loading-told-kinds.r loading-told.Post
+one_loading_told κs a x y s t p q = p ∙ sym q
+
+pub one_making_told : OneResult 0 making-told-kinds.ps making-told-kinds.r making-told.Post
+one_making_told κs a x y s t p q = p ∙ sym q
